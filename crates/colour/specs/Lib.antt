@@ -1,0 +1,10 @@
+pub mod Activation
+pub mod Limits
+pub mod Numbers
+pub mod Record
+pub mod Report
+pub mod Setting
+pub mod Staging
+pub mod Steps
+pub mod Tint
+pub mod Value

@@ -1,0 +1,122 @@
+// Steps of the active colour, and the limit store that can move it.
+use crate::limits::Limits;
+use crate::numbers::clamp;
+use crate::numbers::max;
+use crate::numbers::min;
+use crate::numbers::saturating_add;
+use crate::numbers::saturating_sub;
+use crate::record::Colour;
+use crate::tint::Tint;
+ghost use mathlib.Core.Path.{_≡_};
+ghost use Rattle.colour.specs.Steps.{steppedTc, steppedXy, tcStep, moved, xyStep, snapped, snaps, storeTcLimit};
+
+// How far a coordinate moves in a step, and the last one.
+const XY_STEP: u16 = 256;
+
+const XY_LAST: u16 = 0xFFFE;
+
+// One mirek, not past the effective limits.
+fn stepped_tc(tc: u16, limits: Limits, warmer: bool) -> u16
+    ensures { λ r. ⌜ r ≡ steppedTc tc limits warmer ⌝ }
+{
+    if warmer {
+        return min(saturating_add(tc, 1), limits.effective_warmest());
+    }
+    max(saturating_sub(tc, 1), limits.effective_coolest())
+}
+
+fn stepped_xy(at: u16, up: bool) -> u16
+    ensures { λ r. ⌜ r ≡ steppedXy at up ⌝ }
+{
+    if up {
+        return min(saturating_add(at, XY_STEP), XY_LAST);
+    }
+    saturating_sub(at, XY_STEP)
+}
+
+// Whether a new limit moves an active colour temperature.
+fn snaps(active: Tint, limits: Limits) -> bool
+    ensures { λ r. ⌜ r ≡ snaps active limits ⌝ }
+{
+    if active.is_cct() {
+        let coolest = limits.effective_coolest();
+        let warmest = limits.effective_warmest();
+        return clamp(active.tc, coolest, warmest) != active.tc;
+    }
+    false
+}
+
+// The active colour within new limits.
+fn snapped(active: Tint, limits: Limits) -> Tint
+    ensures { λ r. ⌜ r ≡ snapped active limits ⌝ }
+{
+    let mut next = active;
+    if active.is_cct() {
+        let coolest = limits.effective_coolest();
+        let warmest = limits.effective_warmest();
+        next.tc = clamp(active.tc, coolest, warmest);
+        return next;
+    }
+    next
+}
+
+// One step warmer or cooler, for an active colour temperature alone; it ends within the limits.
+pub fn tc_step(colour: Colour, warmer: bool) -> Colour
+    ensures { λ r. ⌜ r ≡ tcStep colour warmer ⌝ }
+{
+    let mut active = colour.active;
+    let limits = colour.limits;
+    if active.is_cct() {
+        active.tc = stepped_tc(active.tc, limits, warmer);
+        let mut next = colour;
+        next.active = active;
+        next.outside = false;
+        return next;
+    }
+    colour
+}
+
+// The active coordinates moved along one axis.
+fn moved(active: Tint, y_axis: bool, up: bool) -> Tint
+    ensures { λ r. ⌜ r ≡ moved active «y_axis» up ⌝ }
+{
+    let mut next = active;
+    if y_axis {
+        next.y = stepped_xy(active.y, up);
+        return next;
+    }
+    next.x = stepped_xy(active.x, up);
+    next
+}
+
+// One step along an axis, for an active coordinate pair alone.
+pub fn xy_step(colour: Colour, y_axis: bool, up: bool) -> Colour
+    ensures { λ r. ⌜ r ≡ xyStep colour «y_axis» up ⌝ }
+{
+    let active = colour.active;
+    if active.is_xy() {
+        let mut next = colour;
+        next.active = moved(active, y_axis, up);
+        return next;
+    }
+    colour
+}
+
+// Part 209, 9.13: the limit that the selector names, and then an active colour temperature is snapped and marked.
+pub fn store_tc_limit(colour: Colour, value: u16, selector: u8) -> Colour
+    ensures { λ r. ⌜ r ≡ storeTcLimit colour value selector ⌝ }
+{
+    if 3 < selector {
+        return colour;
+    }
+    let limits = colour.limits.store(value, selector);
+    let active = colour.active;
+    let mut next = colour;
+    next.limits = limits;
+    next.active = snapped(active, limits);
+    if snaps(active, limits) {
+        next.outside = true;
+        return next;
+    }
+    next
+}

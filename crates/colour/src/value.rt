@@ -1,0 +1,450 @@
+// What can be read of a colour: colour values by id, status, features and control.
+use crate::limits::Limits;
+use crate::record::Capabilities;
+use crate::record::Colour;
+use crate::setting::ColourSetting;
+use crate::tint::ColorMode;
+ghost use mathlib.Core.Path.{_≡_};
+ghost use Rattle.colour.specs.Value.{kindOf, channelLevel, ifCapable, ownOr, shown, limitValue, colorValue, colourStatus, features, controlByte};
+
+pub enum ColourValue {
+    Value(u16),
+    Nothing,
+}
+
+// The kinds of colour value; 0 is none.
+const ACTIVE: u8 = 1;
+
+const PRIMARY: u8 = 2;
+
+const PRIMARIES: u8 = 3;
+
+const LIMIT: u8 = 4;
+
+const STAGED: u8 = 5;
+
+const REPORT: u8 = 6;
+
+// Part 209, table 11: the kind of each id.
+const KINDS: [u8; 256] = [
+    1,
+    1,
+    1,
+    0,
+    0,
+    0,
+    0,
+    0,
+    0,
+    1,
+    1,
+    1,
+    1,
+    1,
+    1,
+    1,
+    0,
+    0,
+    0,
+    0,
+    0,
+    0,
+    0,
+    0,
+    0,
+    0,
+    0,
+    0,
+    0,
+    0,
+    0,
+    0,
+    0,
+    0,
+    0,
+    0,
+    0,
+    0,
+    0,
+    0,
+    0,
+    0,
+    0,
+    0,
+    0,
+    0,
+    0,
+    0,
+    0,
+    0,
+    0,
+    0,
+    0,
+    0,
+    0,
+    0,
+    0,
+    0,
+    0,
+    0,
+    0,
+    0,
+    0,
+    0,
+    2,
+    2,
+    2,
+    2,
+    2,
+    2,
+    2,
+    2,
+    2,
+    2,
+    2,
+    2,
+    2,
+    2,
+    2,
+    2,
+    2,
+    2,
+    3,
+    0,
+    0,
+    0,
+    0,
+    0,
+    0,
+    0,
+    0,
+    0,
+    0,
+    0,
+    0,
+    0,
+    0,
+    0,
+    0,
+    0,
+    0,
+    0,
+    0,
+    0,
+    0,
+    0,
+    0,
+    0,
+    0,
+    0,
+    0,
+    0,
+    0,
+    0,
+    0,
+    0,
+    0,
+    0,
+    0,
+    0,
+    0,
+    0,
+    0,
+    0,
+    0,
+    0,
+    0,
+    0,
+    4,
+    4,
+    4,
+    4,
+    0,
+    0,
+    0,
+    0,
+    0,
+    0,
+    0,
+    0,
+    0,
+    0,
+    0,
+    0,
+    0,
+    0,
+    0,
+    0,
+    0,
+    0,
+    0,
+    0,
+    0,
+    0,
+    0,
+    0,
+    0,
+    0,
+    0,
+    0,
+    0,
+    0,
+    0,
+    0,
+    0,
+    0,
+    0,
+    0,
+    0,
+    0,
+    0,
+    0,
+    0,
+    0,
+    0,
+    0,
+    0,
+    0,
+    0,
+    0,
+    0,
+    0,
+    0,
+    0,
+    0,
+    0,
+    0,
+    0,
+    0,
+    0,
+    0,
+    0,
+    5,
+    5,
+    5,
+    0,
+    0,
+    0,
+    0,
+    0,
+    0,
+    5,
+    5,
+    5,
+    5,
+    5,
+    5,
+    5,
+    5,
+    0,
+    0,
+    0,
+    0,
+    0,
+    0,
+    0,
+    0,
+    0,
+    0,
+    0,
+    0,
+    0,
+    0,
+    0,
+    6,
+    6,
+    6,
+    0,
+    0,
+    0,
+    0,
+    0,
+    0,
+    6,
+    6,
+    6,
+    6,
+    6,
+    6,
+    6,
+    6,
+    0,
+    0,
+    0,
+    0,
+    0,
+    0,
+    0,
+    0,
+    0,
+    0,
+    0,
+    0,
+    0,
+    0,
+    0,
+];
+
+fn kind_of(id: u8) -> u8
+    ensures { λ r. ⌜ r ≡ kindOf id ⌝ }
+{
+    KINDS[id as usize]
+}
+
+// A channel's level; a channel that the gear lacks has the mask.
+fn channel_level(levels: [u8; 6], channel: u8, channels: u8) -> u16
+    ensures { λ r. ⌜ r ≡ channelLevel levels channel channels ⌝ }
+{
+    if channels <= channel {
+        return 0xFF;
+    }
+    if 6 <= channel {
+        return 0xFF;
+    }
+    let at = channel as usize;
+    levels[at] as u16
+}
+
+// A value that only some gears have.
+fn if_capable(can: bool, value: u16) -> ColourValue
+    ensures { λ r. ⌜ r ≡ ifCapable can value ⌝ }
+{
+    if can {
+        return ColourValue::Value(value);
+    }
+    ColourValue::Nothing
+}
+
+// A number that only one type of colour has; a colour of another type shows the mask.
+fn own_or(kind: u8, owner: u8, value: u16, mask: u16) -> u16
+    ensures { λ r. ⌜ r ≡ ownOr kind owner value mask ⌝ }
+{
+    if kind == owner {
+        return value;
+    }
+    mask
+}
+
+// The place of an id among the numbers of an active, staged or reported colour: 0 x, 1 y, 2 temperature, 9 to 14 the
+// channels, 15 the control, 16 the type.
+fn shown(can: Capabilities, setting: ColourSetting, place: u8) -> ColourValue
+    ensures { λ r. ⌜ r ≡ shown can setting place ⌝ }
+{
+    let kind = setting.kind;
+    let levels = setting.levels;
+    let rgb = 0 < can.channels;
+    if place == 0 {
+        return if_capable(can.xy, own_or(kind, ColourSetting::XY, setting.x, 0xFFFF));
+    }
+    if place == 1 {
+        return if_capable(can.xy, own_or(kind, ColourSetting::XY, setting.y, 0xFFFF));
+    }
+    if place == 2 {
+        return if_capable(can.tc, own_or(kind, ColourSetting::TC, setting.tc, 0xFFFF));
+    }
+    if place < 9 {
+        return ColourValue::Nothing;
+    }
+    if place < 15 {
+        let level = channel_level(levels, place - 9, can.channels);
+        return if_capable(rgb, own_or(kind, ColourSetting::RGBWAF, level, 0xFF));
+    }
+    if place == 15 {
+        let control = setting.control as u16;
+        return if_capable(rgb, own_or(kind, ColourSetting::RGBWAF, control, 0xFF));
+    }
+    if place == 16 {
+        return ColourValue::Value(kind as u16);
+    }
+    ColourValue::Nothing
+}
+
+// The four Tc limits, in the order of their ids.
+fn limit_value(can: Capabilities, limits: Limits, place: u8) -> ColourValue
+    ensures { λ r. ⌜ r ≡ limitValue can limits place ⌝ }
+{
+    if place == 0 {
+        return if_capable(can.tc, limits.stored.coolest);
+    }
+    if place == 1 {
+        return if_capable(can.tc, limits.physical.coolest);
+    }
+    if place == 2 {
+        return if_capable(can.tc, limits.stored.warmest);
+    }
+    if_capable(can.tc, limits.physical.warmest)
+}
+
+// Part 209, table 11.
+pub fn color_value(colour: Colour, id: u8) -> ColourValue
+    ensures { λ r. ⌜ r ≡ colorValue colour id ⌝ }
+{
+    let can = colour.can;
+    let limits = colour.limits;
+    let report = colour.report;
+    let kind = kind_of(id);
+    let place = id % 32;
+    if kind == ACTIVE {
+        return shown(can, colour.active.face(), place);
+    }
+    if kind == PRIMARY {
+        return ColourValue::Value(0xFFFF);
+    }
+    if kind == PRIMARIES {
+        return ColourValue::Value(0);
+    }
+    if kind == LIMIT {
+        return limit_value(can, limits, place);
+    }
+    if kind == STAGED {
+        return shown(can, colour.pending.face(), place);
+    }
+    if kind == REPORT {
+        return shown(can, report, place);
+    }
+    ColourValue::Nothing
+}
+
+// Bits 4, 5 and 7: the active mode; bit 1: an active colour temperature was out of range.
+pub fn dt8_colour_status(colour: Colour) -> u8
+    ensures { λ r. ⌜ r ≡ colourStatus colour ⌝ }
+{
+    let active = colour.active;
+    let mode = active.mode;
+    match mode {
+        ColorMode::None => 0,
+        ColorMode::Xy => 0x10,
+        ColorMode::Cct => { if colour.outside { 0x22 } else { 0x20 } }
+        ColorMode::Rgb => 0x80,
+    }
+}
+
+// Bit 0 xy, bit 1 Tc, bits 5 to 7 the number of channels.
+pub fn dt8_features(colour: Colour) -> u8
+    ensures { λ r. ⌜ r ≡ features colour ⌝ }
+{
+    let channels = colour.can.channels % 8 * 32;
+    if colour.can.xy {
+        if colour.can.tc {
+            return channels + 2 + 1;
+        }
+        return channels + 1;
+    }
+    if colour.can.tc {
+        return channels + 2;
+    }
+    channels
+}
+
+pub fn rgbwaf_control_byte(colour: Colour) -> ColourValue
+    ensures { λ r. ⌜ r ≡ controlByte colour ⌝ }
+{
+    let active = colour.active;
+    if_capable(0 < colour.can.channels, active.control as u16)
+}
+
+pub fn gear_features_byte(colour: Colour) -> u8
+    ensures { λ r. ⌜ r ≡ colour .features ⌝ }
+{
+    colour.features
+}

@@ -1,0 +1,71 @@
+//! The answer to a call, and its four bytes in a list.
+
+use crate::kinds::Outcome;
+
+pub const ANSWER_LEN: usize = 4;
+
+#[derive(Clone, Copy, PartialEq, Eq, Debug)]
+pub enum Answer {
+    Done,
+    Value(u16),
+    Bool(bool),
+    None,
+    Refused(u8),
+}
+
+/// Document 01, "Numbers given back on refusal".
+pub const PROFILE_NOT_ACCEPTED: Answer = Answer::Refused(1);
+pub const BYTE_NOT_IN_TABLE: Answer = Answer::Refused(3);
+pub const GROUP_ABOVE_15: Answer = Answer::Refused(4);
+
+impl Answer {
+    /// Tag, value in two bytes, 0.
+    pub fn bytes(self) -> [u8; ANSWER_LEN] {
+        let (tag, value) = match self {
+            Answer::Done => (0, 0),
+            Answer::Value(value) => (1, value),
+            Answer::Bool(value) => (1, value.into()),
+            Answer::None => (2, 0),
+            Answer::Refused(number) => (3, number.into()),
+        };
+        let [high, low] = value.to_be_bytes();
+        [tag, high, low, 0]
+    }
+
+    pub fn of_byte(value: Option<u8>) -> Self {
+        Answer::of_word(value.map(u16::from))
+    }
+
+    pub fn of_word(value: Option<u16>) -> Self {
+        value.map_or(Answer::None, Answer::Value)
+    }
+
+    pub fn outcome(self) -> Outcome {
+        match self {
+            Answer::Done => Outcome::Done,
+            Answer::Value(_) => Outcome::Value,
+            Answer::Bool(false) => Outcome::No,
+            Answer::Bool(true) => Outcome::Yes,
+            Answer::None => Outcome::None,
+            Answer::Refused(_) => Outcome::Refused,
+        }
+    }
+}
+
+impl std::fmt::Display for Answer {
+    fn fmt(&self, f: &mut std::fmt::Formatter) -> std::fmt::Result {
+        write_bytes(f, self.bytes())
+    }
+}
+
+/// The words for four answer bytes, also for those that a list brings along.
+pub fn write_bytes(f: &mut impl std::fmt::Write, bytes: [u8; ANSWER_LEN]) -> std::fmt::Result {
+    let value = u16::from_be_bytes([bytes[1], bytes[2]]);
+    match bytes[0] {
+        0 => write!(f, "done"),
+        1 => write!(f, "value {value}"),
+        2 => write!(f, "none"),
+        3 => write!(f, "refused {value}"),
+        tag => write!(f, "unknown tag {tag}"),
+    }
+}
