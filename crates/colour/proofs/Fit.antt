@@ -9,10 +9,10 @@ use Rattle.colour.specs.declared.record.Colour.{Colour}
 use Rattle.colour.specs.declared.tint.Tint.{Tint}
 use Rattle.colour.specs.declared.tint.ColorMode.the-variants.{Cct}
 use Rattle.colour.specs.Limits.{effectiveCoolest, effectiveWarmest, limitsFit}
-use Rattle.colour.specs.Numbers.{both}
+use Rattle.numbers.specs.Numbers.{both}
 use Rattle.colour.specs.Record.{fitb}
 use Rattle.colour.specs.Tint.{liesWithin}
-use Rattle.colour.proofs.Logic.{both-true, both-left, both-right, both-three}
+use Rattle.numbers.proofs.Logic.{both-true, both-left, both-right, both-three}
 
 -- the limits in order, within the physical pair, and no physical limit 65,535
 pub record Ordered (l : Limits) : Type 0 where

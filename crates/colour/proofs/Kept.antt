@@ -14,14 +14,14 @@ use Rattle.colour.specs.declared.tint.ColorMode.the-variants.{None, Cct,
 use Rattle.colour.specs.declared.tint.Tint.{Tint}
 use Rattle.colour.specs.Activation.{activated, activate, automatic, arcPower, recall, within}
 use Rattle.colour.specs.Limits.{effectiveCoolest, effectiveWarmest}
-use Rattle.colour.specs.Numbers.{both, pick}
+use Rattle.numbers.specs.Numbers.{both, pick}
 use Rattle.colour.specs.Record.{powerUp, withFeatures}
 use Rattle.colour.specs.Report.{reportFrom, reportFromActual}
 use Rattle.colour.specs.Staging.{loadTemporariesFrom, copyReport, takeStagedColour}
 use Rattle.colour.specs.Steps.{tcStep, xyStep, steppedTc, moved}
 use Rattle.colour.specs.Tint.{liesWithin, isCct, isXy, captured}
 use Rattle.colour.proofs.Fit.{Ordered, Fit}
-use Rattle.colour.proofs.Logic.{by-cases, both-true, both-left, both-right}
+use Rattle.numbers.proofs.Logic.{by-cases, both-true, both-left, both-right}
 
 -- a clamped colour temperature lies within the limits, whatever the mode
 pub within-lies : (l : Limits) (tc : ℕ) → Ordered l → both (leb (effectiveCoolest l) (within tc l)) (leb (within tc l) (effectiveWarmest l)) ≡ true

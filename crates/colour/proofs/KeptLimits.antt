@@ -12,12 +12,12 @@ use Rattle.colour.specs.declared.record.Colour.{Colour}
 use Rattle.colour.specs.declared.tint.Tint.{Tint}
 use Rattle.colour.specs.Activation.{within}
 use Rattle.colour.specs.Limits.{effectiveCoolest, effectiveWarmest, rendered, storeLimit, storeCoolest, storeWarmest, storePhysical, pulled}
-use Rattle.colour.specs.Numbers.{both, pick, clampTo}
+use Rattle.numbers.specs.Numbers.{both, pick, clampTo}
 use Rattle.colour.specs.Record.{fresh, reset}
 use Rattle.colour.specs.Steps.{storeTcLimit, snapped}
 use Rattle.colour.specs.Tint.{liesWithin, isCct}
 use Rattle.colour.proofs.Fit.{Ordered, Fit}
-use Rattle.colour.proofs.Logic.{by-cases, both-true, both-left, both-right}
+use Rattle.numbers.proofs.Logic.{by-cases, both-true, both-left, both-right}
 use Rattle.colour.proofs.Kept.{within-lies}
 
 -- the effective limit, from a stored and a physical one

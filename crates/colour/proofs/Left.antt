@@ -13,7 +13,7 @@ use Rattle.colour.specs.Activation.{activated, strays, activate, automat
 use Rattle.colour.specs.Staging.{withPending, loadTemporariesFrom, copyReport, takeStagedColour}
 use Rattle.colour.specs.Steps.{tcStep, xyStep, storeTcLimit}
 use Rattle.colour.specs.Tint.{dark, unstaged}
-use Rattle.colour.proofs.Logic.{by-cases}
+use Rattle.numbers.proofs.Logic.{by-cases}
 
 -- no call of a gear that changes colour changes these but the report and the feature store
 pub record Left (before after : Colour) : Type 0 where

@@ -8,7 +8,7 @@ use Rattle.colour.specs.declared.setting.ColourSetting.{ColourSetting}
 use Rattle.colour.specs.declared.tint.Tint.{Tint}
 use Rattle.colour.specs.declared.tint.ColorMode.the-variants.{None, Cct, Xy, Rgb}
 use Rattle.colour.specs.Limits.{effectiveCoolest, effectiveWarmest}
-use Rattle.colour.specs.Numbers.{pick, clampTo}
+use Rattle.numbers.specs.Numbers.{pick, clampTo}
 use Rattle.colour.specs.Staging.{loadTemporariesFrom}
 use Rattle.colour.specs.Tint.{byMode, isCct, unstaged}
 

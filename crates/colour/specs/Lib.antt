@@ -1,6 +1,5 @@
 pub mod Activation
 pub mod Limits
-pub mod Numbers
 pub mod Record
 pub mod Report
 pub mod Setting

@@ -4,7 +4,7 @@ use mathlib.Core.Bool.{Bool}
 use lib.Dec.{eqb, leb, ltb}
 use Rattle.colour.specs.declared.limits.Limits.{Limits}
 use Rattle.colour.specs.declared.limits.Range.{Range}
-use Rattle.colour.specs.Numbers.{both, pick, clampTo}
+use Rattle.numbers.specs.Numbers.{both, pick, clampTo}
 
 abbrev pub range : ℕ → ℕ → Range
 range coolest warmest = record { coolest = coolest; warmest = warmest }

@@ -9,7 +9,7 @@ use Rattle.colour.specs.declared.record.Colour.{Colour}
 use Rattle.colour.specs.declared.setting.ColourSetting.{ColourSetting}
 use Rattle.colour.specs.declared.tint.Tint.{Tint}
 use Rattle.colour.specs.Limits.{range, limitsFit}
-use Rattle.colour.specs.Numbers.{both}
+use Rattle.numbers.specs.Numbers.{both}
 use Rattle.colour.specs.Setting.{mask}
 use Rattle.colour.specs.Tint.{dark, unstaged, liesWithin}
 

@@ -4,7 +4,7 @@ use mathlib.Core.Bool.{Bool}
 use lib.ListN.{replicate}
 use Rattle.colour.specs.declared.record.Capabilities.{Capabilities}
 use Rattle.colour.specs.declared.setting.ColourSetting.{ColourSetting}
-use Rattle.colour.specs.Numbers.{pick}
+use Rattle.numbers.specs.Numbers.{pick}
 
 -- a type byte over numbers that all say 'no change'
 abbrev pub masked : ℕ → ColourSetting

@@ -6,7 +6,7 @@ use Rattle.colour.specs.declared.setting.ColourSetting.{ColourSetting}
 use Rattle.colour.specs.declared.staging.Taken.{Taken}
 use Rattle.colour.specs.declared.tint.Tint.{Tint}
 use Rattle.colour.specs.declared.tint.ColorMode.the-variants.{None, Cct, Xy, Rgb}
-use Rattle.colour.specs.Numbers.{pick}
+use Rattle.numbers.specs.Numbers.{pick}
 use Rattle.colour.specs.Tint.{captured, isLit, unstaged}
 
 abbrev pub withPending : Colour → Tint → Colour

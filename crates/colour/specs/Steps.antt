@@ -7,7 +7,7 @@ use Rattle.colour.specs.declared.record.Colour.{Colour}
 use Rattle.colour.specs.declared.tint.Tint.{Tint}
 use Rattle.colour.specs.Activation.{within}
 use Rattle.colour.specs.Limits.{effectiveCoolest, effectiveWarmest, storeLimit}
-use Rattle.colour.specs.Numbers.{pick}
+use Rattle.numbers.specs.Numbers.{pick}
 use Rattle.colour.specs.Tint.{isCct, isXy}
 
 -- limits, active colour and mark put back at once

@@ -9,7 +9,7 @@ use Rattle.colour.specs.declared.tint.Tint.{Tint}
 use Rattle.colour.specs.declared.tint.ColorMode.{ColorMode}
 use Rattle.colour.specs.declared.tint.ColorMode.the-variants.{None, Cct, Xy, Rgb}
 use Rattle.colour.specs.Limits.{effectiveCoolest, effectiveWarmest}
-use Rattle.colour.specs.Numbers.{both, pick}
+use Rattle.numbers.specs.Numbers.{both, pick}
 use Rattle.colour.specs.Setting.{mask}
 
 -- a value for each mode, in the order none, xy, Tc, RGBWAF

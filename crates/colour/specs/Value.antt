@@ -10,7 +10,7 @@ use Rattle.colour.specs.declared.record.Colour.{Colour}
 use Rattle.colour.specs.declared.setting.ColourSetting.{ColourSetting}
 use Rattle.colour.specs.declared.value.ColourValue.{ColourValue}
 use Rattle.colour.specs.declared.value.ColourValue.the-variants.{Value, Nothing}
-use Rattle.colour.specs.Numbers.{pick}
+use Rattle.numbers.specs.Numbers.{pick}
 use Rattle.colour.specs.Tint.{byMode, face}
 
 -- the kind of an id: 1 active, 2 a primary's number, 3 how many primaries, 4 a Tc limit, 5 staged, 6 reported, 0 none.

@@ -1,11 +1,11 @@
 // Activating the staged colour.
 use crate::limits::Limits;
-use crate::numbers::clamp;
 use crate::record::Colour;
 use crate::setting::ColourSetting;
 use crate::staging::load_temporaries_from;
 use crate::tint::ColorMode;
 use crate::tint::Tint;
+use numbers::word::clamp;
 ghost use mathlib.Core.Path.{_≡_};
 ghost use Rattle.colour.specs.Activation.{unlinked, chosen, activated, strays, activate, automatic, arcPower, recall};
 

@@ -2,7 +2,6 @@
 // No function asks anything of its arguments: crossed limits, unknown type bytes and numbers left over have an answer.
 pub mod activation;
 pub mod limits;
-pub mod numbers;
 pub mod record;
 pub mod report;
 pub mod setting;

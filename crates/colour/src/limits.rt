@@ -1,7 +1,7 @@
 // The limits of a colour temperature, in mirek: those stored for the gear, and the physical ones behind them.
-use crate::numbers::clamp;
-use crate::numbers::max;
-use crate::numbers::min;
+use numbers::word::clamp;
+use numbers::word::max;
+use numbers::word::min;
 ghost use mathlib.Core.Path.{_≡_};
 ghost use Rattle.colour.specs.Limits.{effectiveCoolest, effectiveWarmest, limitsFit, pulled, storeCoolest, storeWarmest, storePhysical, storeLimit};
 

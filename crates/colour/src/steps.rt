@@ -1,12 +1,12 @@
 // Steps of the active colour, and the limit store that can move it.
 use crate::limits::Limits;
-use crate::numbers::clamp;
-use crate::numbers::max;
-use crate::numbers::min;
-use crate::numbers::saturating_add;
-use crate::numbers::saturating_sub;
 use crate::record::Colour;
 use crate::tint::Tint;
+use numbers::word::clamp;
+use numbers::word::max;
+use numbers::word::min;
+use numbers::word::saturating_add;
+use numbers::word::saturating_sub;
 ghost use mathlib.Core.Path.{_≡_};
 ghost use Rattle.colour.specs.Steps.{steppedTc, steppedXy, tcStep, moved, xyStep, snapped, snaps, storeTcLimit};
 

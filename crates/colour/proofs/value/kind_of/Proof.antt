@@ -6,7 +6,7 @@ use lib.Dec.{eqb, eqb→eq}
 use lib.ListN.{getD}
 use borrow.Author.Needs.{needs}
 use Rattle.colour.specs.Value.{kindOf}
-use Rattle.colour.proofs.Table.{at}
+use Rattle.numbers.proofs.Table.{at}
 use Rattle.colour.proofs.value.kind_of.Statement.{statement}
 use Rattle.colour.proofs.value.kind_of.Tie as tie
 

@@ -1,0 +1,70 @@
+// What a call answers: nothing to say, a value, no value, or a refusal with its number.
+use crate::record::Gear;
+ghost use mathlib.Core.Path.{_≡_};
+ghost use Rattle.gear.specs.Answer.{refusalNumber, flag, refused, done};
+
+// Why a call was refused.
+pub enum Refusal {
+    Profile,
+    Unfit,
+    Byte,
+    Group,
+    File,
+}
+
+impl Refusal {
+    pub fn number(self) -> u8
+        ensures { λ r. ⌜ r ≡ refusalNumber self ⌝ }
+    {
+        let refusal = self;
+        match refusal {
+            Refusal::Profile => 1,
+            Refusal::Unfit => 2,
+            Refusal::Byte => 3,
+            Refusal::Group => 4,
+            Refusal::File => 5,
+        }
+    }
+}
+
+pub enum Answer {
+    Done,
+    Value(u16),
+    Nothing,
+    Refused(Refusal),
+}
+
+// The answer, and the record that follows.
+pub struct Outcome {
+    pub answer: Answer,
+    pub gear: Gear,
+}
+
+// Yes is 1, no is 0.
+pub fn flag(yes: bool) -> Answer
+    ensures { λ r. ⌜ r ≡ flag yes ⌝ }
+{
+    if yes {
+        return Answer::Value(1);
+    }
+    Answer::Value(0)
+}
+
+pub fn done(gear: Gear) -> Outcome
+    ensures { λ r. ⌜ r ≡ done gear ⌝ }
+{
+    Outcome {
+        answer: Answer::Done,
+        gear: gear,
+    }
+}
+
+// A refused call hands the record back as it was.
+pub fn refused(gear: Gear, refusal: Refusal) -> Outcome
+    ensures { λ r. ⌜ r ≡ refused gear refusal ⌝ }
+{
+    Outcome {
+        answer: Answer::Refused(refusal),
+        gear: gear,
+    }
+}

@@ -1,0 +1,276 @@
+// Standard writes (part 102, 11.3 and 11.4): arc power, scenes, settings, reset, identify and write enable.
+use crate::answer::Outcome;
+use crate::answer::Refusal;
+use crate::answer::done;
+use crate::answer::refused;
+use crate::command::ConfigCommand;
+use crate::command::StandardCommand;
+use crate::command::command_of;
+use crate::record::Gear;
+use crate::record::LevelSetting;
+use crate::record::SCENE_UNSET;
+use crate::scene::colour_at;
+use crate::scene::level_at;
+use crate::scene::with_colour;
+use crate::scene::with_level;
+use crate::scene::with_member;
+use colour::activation::arc_power_activation;
+use colour::activation::recall;
+use colour::setting::ColourSetting;
+use colour::staging::take_staged_colour;
+use level::arc::ArcCommand;
+use level::arc::apply_arc;
+use level::levels::Levels;
+ghost use mathlib.Core.Path.{_≡_};
+ghost use Rattle.gear.specs.Write.{keepsIdentify, arcWrite, recalledLevels, recallScene, setMin, extendedFade, setScene, removeScene, setPowerOnLevel, setSystemFailureLevel, configWrite, identify, enableWrite, write, applyStandardWrite, directArcPower};
+
+// The longest extended fade time that is stored as it came.
+const EXTENDED_FADE_MAX: u8 = 79;
+
+// Part 102, 9.14.3: recalling the highest or the lowest level leaves the identify mark.
+fn keeps_identify(command: ArcCommand) -> bool
+    ensures { λ r. ⌜ r ≡ keepsIdentify command ⌝ }
+{
+    match command {
+        ArcCommand::DirectArcPower(_) => false,
+        ArcCommand::Off => false,
+        ArcCommand::Up => false,
+        ArcCommand::Down => false,
+        ArcCommand::StepUp => false,
+        ArcCommand::StepDown => false,
+        ArcCommand::RecallMaxLevel => true,
+        ArcCommand::RecallMinLevel => true,
+        ArcCommand::StepDownAndOff => false,
+        ArcCommand::OnAndStepUp => false,
+        ArcCommand::GoToLastActiveLevel => false,
+    }
+}
+
+fn arc_write(gear: Gear, command: ArcCommand) -> Gear
+    ensures { λ r. ⌜ r ≡ arcWrite gear command ⌝ }
+{
+    let levels = gear.levels;
+    let marks = gear.marks;
+    let colour = gear.colour;
+    let mut next = gear;
+    next.marks = marks.asked(keeps_identify(command));
+    next.colour = arc_power_activation(colour);
+    next.levels = apply_arc(levels, command);
+    next
+}
+
+// A scene without a level asks for none.
+fn recalled_levels(levels: Levels, level: u8) -> Levels
+    ensures { λ r. ⌜ r ≡ recalledLevels levels level ⌝ }
+{
+    if level == SCENE_UNSET {
+        return levels;
+    }
+    levels.set_level(level)
+}
+
+// Part 209, 9.11.4: the scene's colour, then its level.
+fn recall_scene(gear: Gear, scene: u8) -> Gear
+    ensures { λ r. ⌜ r ≡ recallScene gear scene ⌝ }
+{
+    let levels = gear.levels;
+    let marks = gear.marks;
+    let colour = gear.colour;
+    let scenes = gear.scenes;
+    let colours = gear.colours;
+    let mut next = gear;
+    next.marks = marks.asked(false);
+    next.colour = recall(colour, colour_at(colours, scene));
+    next.levels = recalled_levels(levels, level_at(scenes, scene));
+    next
+}
+
+// Part 208: a switching gear may have a fixed lowest level.
+fn set_min(gear: Gear, asked: u8) -> Levels
+    ensures { λ r. ⌜ r ≡ setMin gear asked ⌝ }
+{
+    let levels = gear.levels;
+    let unit = gear.unit;
+    if unit.levels_fixed() {
+        return levels;
+    }
+    levels.set_min_level(unit.min_level_floor(), asked)
+}
+
+fn extended_fade(asked: u8) -> u8
+    ensures { λ r. ⌜ r ≡ extendedFade asked ⌝ }
+{
+    if EXTENDED_FADE_MAX < asked {
+        return 0;
+    }
+    asked
+}
+
+// Part 209, 9.11.4: the level, and the staged colour where there is one.
+fn set_scene(gear: Gear, scene: u8, level: u8) -> Gear
+    ensures { λ r. ⌜ r ≡ setScene gear scene level ⌝ }
+{
+    let colour = gear.colour;
+    let scenes = gear.scenes;
+    let colours = gear.colours;
+    let taken = take_staged_colour(colour, colour_at(colours, scene));
+    let setting = taken.setting;
+    let rest = taken.colour;
+    let mut next = gear;
+    let levels = with_level(scenes, scene, level);
+    let settings = with_colour(colours, scene, setting);
+    next.scenes = levels;
+    next.colours = settings;
+    next.colour = rest;
+    next
+}
+
+fn remove_scene(gear: Gear, scene: u8) -> Gear
+    ensures { λ r. ⌜ r ≡ removeScene gear scene ⌝ }
+{
+    let scenes = gear.scenes;
+    let colours = gear.colours;
+    let mut next = gear;
+    let levels = with_level(scenes, scene, SCENE_UNSET);
+    let settings = with_colour(colours, scene, ColourSetting::mask());
+    next.scenes = levels;
+    next.colours = settings;
+    next
+}
+
+// Part 209, 9.2.2: the power-on level with the staged colour.
+fn set_power_on_level(gear: Gear, level: u8) -> Gear
+    ensures { λ r. ⌜ r ≡ setPowerOnLevel gear level ⌝ }
+{
+    let colour = gear.colour;
+    let kept = gear.on.colour;
+    let taken = take_staged_colour(colour, kept);
+    let setting = taken.setting;
+    let rest = taken.colour;
+    let mut next = gear;
+    let stored = LevelSetting {
+        level: level,
+        colour: setting,
+    };
+    next.on = stored;
+    next.colour = rest;
+    next
+}
+
+// Part 209, 9.3.2: the system failure level with the staged colour.
+fn set_system_failure_level(gear: Gear, level: u8) -> Gear
+    ensures { λ r. ⌜ r ≡ setSystemFailureLevel gear level ⌝ }
+{
+    let colour = gear.colour;
+    let kept = gear.failure.colour;
+    let taken = take_staged_colour(colour, kept);
+    let setting = taken.setting;
+    let rest = taken.colour;
+    let mut next = gear;
+    let stored = LevelSetting {
+        level: level,
+        colour: setting,
+    };
+    next.failure = stored;
+    next.colour = rest;
+    next
+}
+
+fn config_write(gear: Gear, command: ConfigCommand, dtr0: u8) -> Gear
+    ensures { λ r. ⌜ r ≡ configWrite gear command dtr0 ⌝ }
+{
+    let levels = gear.levels;
+    let marks = gear.marks;
+    let groups = gear.groups;
+    let mut next = gear;
+    next.marks = marks.configured();
+    match command {
+        ConfigCommand::SetMaxLevel => {
+            next.levels = levels.set_max_level(dtr0);
+            next
+        }
+        ConfigCommand::SetMinLevel => {
+            next.levels = set_min(gear, dtr0);
+            next
+        }
+        ConfigCommand::SetSystemFailureLevel => set_system_failure_level(next, dtr0),
+        ConfigCommand::SetPowerOnLevel => set_power_on_level(next, dtr0),
+        ConfigCommand::SetFadeTime => {
+            next.fades.time = dtr0;
+            next
+        }
+        ConfigCommand::SetFadeRate => {
+            next.fades.rate = dtr0;
+            next
+        }
+        ConfigCommand::SetExtendedFadeTime => {
+            let time = extended_fade(dtr0);
+            next.fades.extended = time;
+            next
+        }
+        ConfigCommand::SetScene(scene) => set_scene(next, scene, dtr0),
+        ConfigCommand::RemoveScene(scene) => remove_scene(next, scene),
+        ConfigCommand::AddToGroup(group) => {
+            let members = with_member(groups, group, true);
+            next.groups = members;
+            next
+        }
+        ConfigCommand::RemoveFromGroup(group) => {
+            let members = with_member(groups, group, false);
+            next.groups = members;
+            next
+        }
+    }
+}
+
+fn identify(gear: Gear) -> Gear
+    ensures { λ r. ⌜ r ≡ identify gear ⌝ }
+{
+    let marks = gear.marks;
+    let mut next = gear;
+    next.marks = marks.identified();
+    next
+}
+
+fn enable_write(gear: Gear) -> Gear
+    ensures { λ r. ⌜ r ≡ enableWrite gear ⌝ }
+{
+    let marks = gear.marks;
+    let mut next = gear;
+    next.marks = marks.enabled();
+    next
+}
+
+fn write(gear: Gear, command: StandardCommand, dtr0: u8) -> Outcome
+    ensures { λ r. ⌜ r ≡ write gear command dtr0 ⌝ }
+{
+    match command {
+        StandardCommand::Arc(arc) => done(arc_write(gear, arc)),
+        StandardCommand::GoToScene(scene) => done(recall_scene(gear, scene)),
+        StandardCommand::Reset => done(gear.reset_gear()),
+        StandardCommand::IdentifyDevice => done(identify(gear)),
+        StandardCommand::Config(config) => done(config_write(gear, config, dtr0)),
+        StandardCommand::EnableWriteMemory => done(enable_write(gear)),
+        StandardCommand::Unknown => refused(gear, Refusal::Byte),
+    }
+}
+
+// A write by its byte, with DTR0.
+pub fn apply_standard_write(gear: Gear, byte: u8, dtr0: u8) -> Outcome
+    ensures { λ r. ⌜ r ≡ applyStandardWrite gear byte dtr0 ⌝ }
+{
+    if gear.fit() {
+        return write(gear, command_of(byte), dtr0);
+    }
+    refused(gear, Refusal::Unfit)
+}
+
+// Direct arc power, which has no byte of its own.
+pub fn direct_arc_power(gear: Gear, level: u8) -> Outcome
+    ensures { λ r. ⌜ r ≡ directArcPower gear level ⌝ }
+{
+    if gear.fit() {
+        return done(arc_write(gear, ArcCommand::DirectArcPower(level)));
+    }
+    refused(gear, Refusal::Unfit)
+}
