@@ -4,5 +4,6 @@ pub mod Marks
 pub mod Profile
 pub mod Record
 pub mod Scene
+pub mod Serve
 pub mod Types
 pub mod Write

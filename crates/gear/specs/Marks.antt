@@ -3,6 +3,7 @@ use Prim.Native.Nat.{ℕ}
 use mathlib.Core.Bool.{Bool, true, false}
 use lib.Dec.{leb}
 use Rattle.gear.specs.declared.marks.Marks.{Marks}
+use Rattle.gear.specs.declared.marks.Pair.{Pair}
 use Rattle.gear.specs.declared.marks.Pair.the-variants.{Closed, Open}
 use Rattle.gear.specs.declared.marks.Walk.{Walk}
 use Rattle.gear.specs.declared.marks.Walk.the-variants.{Off, At}
@@ -62,6 +63,46 @@ identified m = heard m (m .reset) (m .cycled) true (m .writable)
 
 unfoldable pub enabled : Marks → Marks
 enabled m = heard m (m .reset) (m .cycled) false true
+
+abbrev pub withWalk : Marks → Walk → Marks
+withWalk m w =
+    record {
+      walk = w;
+      pair = m .pair;
+      reset = m .reset;
+      cycled = m .cycled;
+      initialise = m .initialise;
+      withdrawn = m .withdrawn;
+      identifying = m .identifying;
+      writable = m .writable;
+    }
+
+abbrev pub withPair : Marks → Pair → Marks
+withPair m p =
+    record {
+      walk = m .walk;
+      pair = p;
+      reset = m .reset;
+      cycled = m .cycled;
+      initialise = m .initialise;
+      withdrawn = m .withdrawn;
+      identifying = m .identifying;
+      writable = m .writable;
+    }
+
+-- the walk and the reset state stay; a power cycle is seen
+abbrev pub powerUpMarks : Marks → Marks
+powerUpMarks m =
+    record {
+      walk = m .walk;
+      pair = Closed;
+      reset = m .reset;
+      cycled = true;
+      initialise = false;
+      withdrawn = false;
+      identifying = false;
+      writable = false;
+    }
 
 -- off, or at most 16
 unfoldable pub walkFit : Walk → Bool

@@ -4,7 +4,7 @@ use mathlib.Core.Bool.{Bool, true, false}
 use mathlib.Core.List.{List}
 use lib.Dec.{eqb, ltb}
 use Rattle.gear.specs.declared.answer.Outcome.{Outcome}
-use Rattle.gear.specs.declared.answer.Refusal.the-variants.{Unfit, Byte}
+use Rattle.gear.specs.declared.answer.Refusal.the-variants.{Byte}
 use Rattle.gear.specs.declared.command.ConfigCommand.{ConfigCommand}
 use Rattle.gear.specs.declared.command.ConfigCommand.the-variants.{SetMaxLevel, SetMinLevel, SetSystemFailureLevel, SetPowerOnLevel, SetFadeTime, SetFadeRate, SetExtendedFadeTime, SetScene, RemoveScene, AddToGroup, RemoveFromGroup}
 use Rattle.gear.specs.declared.command.StandardCommand.{StandardCommand}
@@ -17,8 +17,9 @@ use Rattle.gear.specs.Answer.{done, refused}
 use Rattle.gear.specs.Command.{commandOf}
 use Rattle.gear.specs.Marks.{asked, configured, identified, enabled}
 use Rattle.gear.specs.Profile.{floor, fixed}
-use Rattle.gear.specs.Record.{fitb, resetGear}
+use Rattle.gear.specs.Record.{resetGear}
 use Rattle.gear.specs.Scene.{levelAt, colourAt, stored}
+use Rattle.gear.specs.Serve.{serve}
 use Rattle.colour.specs.Activation.{arcPower, recall}
 use Rattle.colour.specs.declared.record.Colour.{Colour}
 use Rattle.colour.specs.declared.setting.ColourSetting.{ColourSetting}
@@ -204,9 +205,9 @@ write g (Config k) d = done (configWrite g k d)
 write g EnableWriteMemory d = done (enableWrite g)
 write g Unknown d = refused g Byte
 
--- 2 before 3
+-- a byte that no write has is refused after an unfit record
 unfoldable pub applyStandardWrite : Gear → ℕ → ℕ → Outcome
-applyStandardWrite g byte d = pick (fitb g) (write g (commandOf byte) d) (refused g Unfit)
+applyStandardWrite g byte d = serve g (write g (commandOf byte) d)
 
 unfoldable pub directArcPower : Gear → ℕ → Outcome
-directArcPower g v = pick (fitb g) (done (arcWrite g (DirectArcPower v))) (refused g Unfit)
+directArcPower g v = serve g (done (arcWrite g (DirectArcPower v)))

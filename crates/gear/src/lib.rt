@@ -6,5 +6,6 @@ pub mod marks;
 pub mod profile;
 pub mod record;
 pub mod scene;
+pub mod serve;
 pub mod types;
 pub mod write;

@@ -1,6 +1,6 @@
 // What a gear remembers of the frames that it heard, and how each kind of command changes that.
 ghost use mathlib.Core.Path.{_≡_};
-ghost use Rattle.gear.specs.Marks.{freshMarks, resetMarks, heard, asked, configured, identified, enabled, walkFit};
+ghost use Rattle.gear.specs.Marks.{freshMarks, resetMarks, heard, asked, configured, identified, enabled, withWalk, withPair, powerUpMarks, walkFit};
 
 // The walk through the type list: off, or at the next entry to tell.
 pub enum Walk {
@@ -97,6 +97,55 @@ impl Marks {
         ensures { λ r. ⌜ r ≡ enabled self ⌝ }
     {
         self.heard(self.reset, self.cycled, false, true)
+    }
+
+    pub fn with_walk(self, walk: Walk) -> Marks
+        ensures { λ r. ⌜ r ≡ withWalk self walk ⌝ }
+    {
+        let pair = self.pair;
+        Marks {
+            walk: walk,
+            pair: pair,
+            reset: self.reset,
+            cycled: self.cycled,
+            initialise: self.initialise,
+            withdrawn: self.withdrawn,
+            identifying: self.identifying,
+            writable: self.writable,
+        }
+    }
+
+    pub fn with_pair(self, pair: Pair) -> Marks
+        ensures { λ r. ⌜ r ≡ withPair self pair ⌝ }
+    {
+        let walk = self.walk;
+        Marks {
+            walk: walk,
+            pair: pair,
+            reset: self.reset,
+            cycled: self.cycled,
+            initialise: self.initialise,
+            withdrawn: self.withdrawn,
+            identifying: self.identifying,
+            writable: self.writable,
+        }
+    }
+
+    // Power-up ends an open pair and every mark but the walk and the reset state, and is seen.
+    pub fn power_up(self) -> Marks
+        ensures { λ r. ⌜ r ≡ powerUpMarks self ⌝ }
+    {
+        let walk = self.walk;
+        Marks {
+            walk: walk,
+            pair: Pair::Closed,
+            reset: self.reset,
+            cycled: true,
+            initialise: false,
+            withdrawn: false,
+            identifying: false,
+            writable: false,
+        }
     }
 
     // A walk is off, or at most at the end of the longest list.
