@@ -1,0 +1,18 @@
+-- `setters::set_lamp_starting` meets its contract: the callees give the parts.
+use Rattle.calls.specs.Setters.{setLampStartingCall}
+use borrow.Author.Needs.{needs}
+use Rattle.calls.proofs.setters.set_lamp_starting.Statement.{statement}
+use Rattle.calls.proofs.setters.set_lamp_starting.Tie as tie
+
+done-requires : tie.Need-done-requires
+done-requires c κs = search needs
+
+serve-requires : tie.Need-serve-requires
+serve-requires c κs = search needs
+
+returns : tie.Need-returns
+unfolding setLampStartingCall
+returns c = simp (c .serve .ensures, c .before .done .ensures)
+
+pub set-lamp-starting-spec : {M : Type 1} → statement M
+set-lamp-starting-spec = tie.close (tie.spec done-requires serve-requires returns)

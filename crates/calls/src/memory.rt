@@ -1,0 +1,115 @@
+// Memory calls: those of the bank library, under the fit test.
+use bank::build::Banks;
+use bank::memory::Location;
+use bank::memory::advances_dtr0_past as advances;
+use bank::memory::implements_bank as implements;
+use bank::memory::memory_location as location;
+use bank::memory::write_memory_location as write;
+use bank::setters::clear_identification_number as clear_number;
+use bank::setters::set_bank0_last_offset as set_last;
+use bank::setters::set_bank1_location as set_location;
+use bank::setters::set_bank1_lock_byte as set_lock;
+use bank::setters::set_logical_gear_unit as set_unit;
+use gear::answer::Answer;
+use gear::answer::Outcome;
+use gear::answer::done;
+use gear::answer::flag;
+use gear::record::Gear;
+use gear::serve::serve;
+use gear::serve::tell;
+ghost use mathlib.Core.Path.{_≡_};
+ghost use Rattle.calls.specs.Memory.{locationAnswer, rebanked, memoryLocationCall, writeMemoryCall, advancesCall, implementsCall, setLockCall, setLocationCall, setUnitCall, setLastCall, clearNumberCall};
+
+fn location_answer(found: Location) -> Answer
+    ensures { λ r. ⌜ r ≡ locationAnswer found ⌝ }
+{
+    match found {
+        Location::Byte(byte) => Answer::Value(byte as u16),
+        Location::Nothing => Answer::Nothing,
+    }
+}
+
+// The record with other banks, if it is fit.
+fn rebanked(gear: Gear, answer: Answer, banks: Banks) -> Outcome
+    ensures { λ r. ⌜ r ≡ rebanked gear answer banks ⌝ }
+{
+    let mut next = gear;
+    next.banks = banks;
+    let outcome = Outcome {
+        answer: answer,
+        gear: next,
+    };
+    serve(gear, outcome)
+}
+
+pub fn memory_location(gear: Gear, bank: u8, offset: u8) -> Answer
+    ensures { λ r. ⌜ r ≡ memoryLocationCall gear bank offset ⌝ }
+{
+    let banks = gear.banks;
+    tell(
+        gear,
+        location_answer(location(banks, gear.unit.bare, bank, offset)),
+    )
+}
+
+// Write enable is not asked for.
+pub fn write_memory_location(gear: Gear, bank: u8, offset: u8, value: u8) -> Outcome
+    ensures { λ r. ⌜ r ≡ writeMemoryCall gear bank offset value ⌝ }
+{
+    let banks = gear.banks;
+    let written = write(banks, gear.faults.unstored, bank, offset, value);
+    let found = written.answer;
+    let rest = written.banks;
+    rebanked(gear, location_answer(found), rest)
+}
+
+pub fn advances_dtr0_past(gear: Gear, bank: u8, offset: u8) -> Answer
+    ensures { λ r. ⌜ r ≡ advancesCall gear bank offset ⌝ }
+{
+    let banks = gear.banks;
+    tell(
+        gear,
+        flag(advances(banks, gear.unit.bare, gear.unit.holds, bank, offset)),
+    )
+}
+
+pub fn implements_bank(gear: Gear, bank: u8) -> Answer
+    ensures { λ r. ⌜ r ≡ implementsCall gear bank ⌝ }
+{
+    tell(gear, flag(implements(bank)))
+}
+
+pub fn set_bank1_lock_byte(gear: Gear, value: u8) -> Outcome
+    ensures { λ r. ⌜ r ≡ setLockCall gear value ⌝ }
+{
+    let banks = gear.banks;
+    rebanked(gear, Answer::Done, set_lock(banks, value))
+}
+
+pub fn set_bank1_location(gear: Gear, offset: u8, value: u8) -> Outcome
+    ensures { λ r. ⌜ r ≡ setLocationCall gear offset value ⌝ }
+{
+    let banks = gear.banks;
+    rebanked(gear, Answer::Done, set_location(banks, offset, value))
+}
+
+pub fn set_logical_gear_unit(gear: Gear, units: u8, index: u8) -> Outcome
+    ensures { λ r. ⌜ r ≡ setUnitCall gear units index ⌝ }
+{
+    let banks = gear.banks;
+    rebanked(gear, Answer::Done, set_unit(banks, units, index))
+}
+
+pub fn set_bank0_last_offset(gear: Gear, last: u8) -> Outcome
+    ensures { λ r. ⌜ r ≡ setLastCall gear last ⌝ }
+{
+    let banks = gear.banks;
+    rebanked(gear, Answer::Done, set_last(banks, last))
+}
+
+pub fn clear_identification_number(gear: Gear) -> Outcome
+    ensures { λ r. ⌜ r ≡ clearNumberCall gear ⌝ }
+{
+    let banks = gear.banks;
+    rebanked(gear, Answer::Done, clear_number(banks))
+}

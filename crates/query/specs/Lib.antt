@@ -1,0 +1,5 @@
+pub mod Bits
+pub mod Lamp
+pub mod Reply
+pub mod Status
+pub mod Walk
