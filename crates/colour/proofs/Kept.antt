@@ -47,7 +47,7 @@ activate-kept {c} f =
       active = activated-lies (c .active) (c .pending) (c .limits) (f .limits) (f .active);
     }
 
-arc-power-kept : {c : Colour} → Fit c → Fit (arcPower c)
+pub arc-power-kept : {c : Colour} → Fit c → Fit (arcPower c)
 unfolding arcPower
 arc-power-kept {c} f = by-cases (automatic c) (λ e. rw e (activate-kept f)) (λ e. rw e f)
 

@@ -1,1 +1,6 @@
+pub mod Bounds
+pub mod Fit
+pub mod Kept
 pub mod Member
+pub mod Readings
+pub mod Refusals

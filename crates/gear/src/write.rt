@@ -116,13 +116,13 @@ fn set_scene(gear: Gear, scene: u8, level: u8) -> Gear
     let colours = gear.colours;
     let taken = take_staged_colour(colour, colour_at(colours, scene));
     let setting = taken.setting;
-    let rest = taken.colour;
+    let unstaged = taken.colour;
     let mut next = gear;
     let levels = with_level(scenes, scene, level);
     let settings = with_colour(colours, scene, setting);
     next.scenes = levels;
     next.colours = settings;
-    next.colour = rest;
+    next.colour = unstaged;
     next
 }
 
