@@ -56,3 +56,8 @@ unfolding floor
 floor-low most u e =
     let m = minimum-facts most u e in
     (by-cases (isType u 7) (λ t. rw t (m .0)) (λ t. rw t (omega arith)), m .1)
+
+-- a fit unit has at most so many types
+pub count-most : (most : ℕ) (u : Unit) → unitFit most u ≡ true → u .count ≤ most
+unfolding unitFit
+count-most most u e = leb-true (u .count) most (both-left (leb (u .count) most) _ e)

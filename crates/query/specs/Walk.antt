@@ -32,7 +32,8 @@ nextAt g at =
     pick (leb (g .unit .count) at) (record { answer = Value 254; gear = g })
     (record { answer = Value (typeAt (g .unit .types) at); gear = walking g (At (at + 1)) })
 
-next : Gear → Walk → Outcome
+-- what a walk tells next
+unfoldable pub next : Gear → Walk → Outcome
 next g Off = record { answer = Nothing; gear = g }
 next g (At n) = nextAt g n
 
