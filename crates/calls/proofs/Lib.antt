@@ -1,1 +1,4 @@
+pub mod Banks
+pub mod BlindCalls
 pub mod Kept
+pub mod Levels
