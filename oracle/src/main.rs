@@ -48,7 +48,7 @@ is in oracle/FORMAT.md.
                                  --changed: only the fields that the call changed
                                  FIRST LAST: only these calls, counted from 1
   oracle images                  read a list, write 4 answer bytes and 426 record bytes for each call
-  oracle fixed                   write the fixed list (oracle/recorded.calls)
+  oracle fixed                   write the fixed list (crates/replay/stdin)
   oracle fixed --sections        write how many calls each of its sections has
   oracle random SEED CALLS       write a list of CALLS random calls
   oracle coverage [--summary]    read a list, count what it reaches; status 1 where something is missed

@@ -19,7 +19,7 @@ impl Limits {
     // A stored limit of this value gives way to the physical one.
     pub const UNSET: u16 = 0xFFFF;
 
-    pub fn effective_coolest(self) -> u16
+    pub(crate) fn effective_coolest(self) -> u16
         ensures { λ r. ⌜ r ≡ effectiveCoolest self ⌝ }
     {
         if self.stored.coolest == Limits::UNSET {
@@ -29,7 +29,7 @@ impl Limits {
         }
     }
 
-    pub fn effective_warmest(self) -> u16
+    pub(crate) fn effective_warmest(self) -> u16
         ensures { λ r. ⌜ r ≡ effectiveWarmest self ⌝ }
     {
         if self.stored.warmest == Limits::UNSET {
@@ -40,7 +40,7 @@ impl Limits {
     }
 
     // Physical coolest, effective coolest, effective warmest and physical warmest in this order, and below 65,535.
-    pub fn fit(self) -> bool
+    pub(crate) fn fit(self) -> bool
         ensures { λ r. ⌜ r ≡ limitsFit self ⌝ }
     {
         let coolest = self.effective_coolest();
@@ -112,7 +112,7 @@ impl Limits {
 
     // Part 209, table 9: the limit that the selector names. A physical limit stops at the other one and ignores 65,535.
     // A selector above 3 names none.
-    pub fn store(self, value: u16, selector: u8) -> Limits
+    pub(crate) fn store(self, value: u16, selector: u8) -> Limits
         ensures { λ r. ⌜ r ≡ storeLimit self value selector ⌝ }
     {
         let coolest = self.physical.coolest;

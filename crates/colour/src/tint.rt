@@ -21,7 +21,7 @@ pub struct Tint {
 }
 
 // The type byte of a mode; no mode has the mask.
-pub fn colour_type_byte(mode: ColorMode) -> u8
+pub(crate) fn colour_type_byte(mode: ColorMode) -> u8
     ensures { λ r. ⌜ r ≡ colourTypeByte mode ⌝ }
 {
     match mode {
@@ -34,7 +34,7 @@ pub fn colour_type_byte(mode: ColorMode) -> u8
 
 impl Tint {
     // No mode, and every number 0 but the control.
-    pub fn dark(control: u8) -> Tint
+    pub(crate) fn dark(control: u8) -> Tint
         ensures { λ r. ⌜ r ≡ dark control ⌝ }
     {
         Tint {
@@ -47,7 +47,7 @@ impl Tint {
         }
     }
 
-    pub fn is_cct(self) -> bool
+    pub(crate) fn is_cct(self) -> bool
         ensures { λ r. ⌜ r ≡ isCct (self .mode) ⌝ }
     {
         let mode = self.mode;
@@ -59,7 +59,7 @@ impl Tint {
         }
     }
 
-    pub fn is_xy(self) -> bool
+    pub(crate) fn is_xy(self) -> bool
         ensures { λ r. ⌜ r ≡ isXy (self .mode) ⌝ }
     {
         let mode = self.mode;
@@ -72,7 +72,7 @@ impl Tint {
     }
 
     // Any mode but none.
-    pub fn is_lit(self) -> bool
+    pub(crate) fn is_lit(self) -> bool
         ensures { λ r. ⌜ r ≡ isLit (self .mode) ⌝ }
     {
         let mode = self.mode;
@@ -85,7 +85,7 @@ impl Tint {
     }
 
     // A colour temperature that lies within the effective limits; the other modes have none to lie outside.
-    pub fn lies_within(self, limits: Limits) -> bool
+    pub(crate) fn lies_within(self, limits: Limits) -> bool
         ensures { λ r. ⌜ r ≡ liesWithin self limits ⌝ }
     {
         if self.is_cct() {
@@ -99,7 +99,7 @@ impl Tint {
     }
 
     // Every number as it stands, under the type byte of the mode.
-    pub fn face(self) -> ColourSetting
+    pub(crate) fn face(self) -> ColourSetting
         ensures { λ r. ⌜ r ≡ face self ⌝ }
     {
         let mode = self.mode;
@@ -115,7 +115,7 @@ impl Tint {
     }
 
     // The mode's own numbers, every other one masked.
-    pub fn captured(self) -> ColourSetting
+    pub(crate) fn captured(self) -> ColourSetting
         ensures { λ r. ⌜ r ≡ captured self ⌝ }
     {
         let mode = self.mode;
@@ -144,7 +144,7 @@ impl Tint {
     }
 
     // Nothing staged any more: the numbers stay behind under no mode, and the control is masked.
-    pub fn unstaged(self) -> Tint
+    pub(crate) fn unstaged(self) -> Tint
         ensures { λ r. ⌜ r ≡ unstaged self ⌝ }
     {
         let levels = self.levels;

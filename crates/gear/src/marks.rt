@@ -29,7 +29,7 @@ pub struct Marks {
 }
 
 impl Marks {
-    pub fn fresh() -> Marks
+    pub(crate) fn fresh() -> Marks
         ensures { λ r. ⌜ r ≡ freshMarks ⌝ }
     {
         Marks {
@@ -45,7 +45,7 @@ impl Marks {
     }
 
     // After a reset: as fresh, but no power cycle is seen.
-    pub fn reset() -> Marks
+    pub(crate) fn reset() -> Marks
         ensures { λ r. ⌜ r ≡ resetMarks ⌝ }
     {
         let mut marks = Marks::fresh();
@@ -71,7 +71,7 @@ impl Marks {
     }
 
     // A command that asks for a level ends the power-cycle mark and the identify mark, unless it keeps that one.
-    pub fn asked(self, keeps: bool) -> Marks
+    pub(crate) fn asked(self, keeps: bool) -> Marks
         ensures { λ r. ⌜ r ≡ asked self keeps ⌝ }
     {
         if keeps {
@@ -81,19 +81,19 @@ impl Marks {
     }
 
     // A setting ends the reset state and the identify mark.
-    pub fn configured(self) -> Marks
+    pub(crate) fn configured(self) -> Marks
         ensures { λ r. ⌜ r ≡ configured self ⌝ }
     {
         self.heard(false, self.cycled, false, self.writable)
     }
 
-    pub fn identified(self) -> Marks
+    pub(crate) fn identified(self) -> Marks
         ensures { λ r. ⌜ r ≡ identified self ⌝ }
     {
         self.heard(self.reset, self.cycled, true, self.writable)
     }
 
-    pub fn enabled(self) -> Marks
+    pub(crate) fn enabled(self) -> Marks
         ensures { λ r. ⌜ r ≡ enabled self ⌝ }
     {
         self.heard(self.reset, self.cycled, false, true)
@@ -149,7 +149,7 @@ impl Marks {
     }
 
     // A walk is off, or at most at the end of the longest list.
-    pub fn fit(self) -> bool
+    pub(crate) fn fit(self) -> bool
         ensures { λ r. ⌜ r ≡ walkFit (self .walk) ⌝ }
     {
         let walk = self.walk;

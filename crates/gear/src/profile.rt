@@ -63,7 +63,7 @@ impl Unit {
         self.is_type(LED)
     }
 
-    pub fn is_dt7(self) -> bool
+    pub(crate) fn is_dt7(self) -> bool
         ensures { λ r. ⌜ r ≡ isType self 7 ⌝ }
     {
         self.is_type(SWITCHING)
@@ -76,7 +76,7 @@ impl Unit {
     }
 
     // Part 208, table 2: a switching gear goes down to 1.
-    pub fn min_level_floor(self) -> u8
+    pub(crate) fn min_level_floor(self) -> u8
         ensures { λ r. ⌜ r ≡ floor self ⌝ }
     {
         if self.is_dt7() {
@@ -86,7 +86,7 @@ impl Unit {
     }
 
     // Part 208, 9.4: the lowest level of a switching gear is fixed, unless its thresholds are adjustable.
-    pub fn levels_fixed(self) -> bool
+    pub(crate) fn levels_fixed(self) -> bool
         ensures { λ r. ⌜ r ≡ fixed self ⌝ }
     {
         if self.adjustable {
@@ -96,7 +96,7 @@ impl Unit {
     }
 
     // Document 01's limits on a profile, with at most `most` types.
-    pub fn fit(self, most: u8) -> bool
+    pub(crate) fn fit(self, most: u8) -> bool
         ensures { λ r. ⌜ r ≡ unitFit most self ⌝ }
     {
         let short = self.short;

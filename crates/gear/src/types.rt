@@ -8,7 +8,7 @@ pub const SWITCHING: u8 = 7;
 
 pub const COLOUR: u8 = 8;
 
-pub fn has_type(types: [u8; 16], count: u8, code: u8) -> bool
+pub(crate) fn has_type(types: [u8; 16], count: u8, code: u8) -> bool
     ensures { λ r. ⌜ r ≡ hasType types count code ⌝ }
 {
     let mut i: usize = 0;

@@ -5,20 +5,20 @@ ghost use Rattle.numbers.specs.Numbers.{pick};
 ghost use Rattle.query.specs.Bits.{bit, weight, nibble, eight};
 
 // Bit 5 of a byte, and bit 6: the two thermal ones of part 207.
-pub fn bit_5(byte: u8) -> bool
+pub(crate) fn bit_5(byte: u8) -> bool
     ensures { λ r. ⌜ r ≡ bit byte 32 ⌝ }
 {
     byte / 32 % 2 == 1
 }
 
-pub fn bit_6(byte: u8) -> bool
+pub(crate) fn bit_6(byte: u8) -> bool
     ensures { λ r. ⌜ r ≡ bit byte 64 ⌝ }
 {
     byte / 64 % 2 == 1
 }
 
 // A bit's weight where it is set.
-pub fn weight(set: bool, value: u8) -> u8
+pub(crate) fn weight(set: bool, value: u8) -> u8
     ensures { λ r. ⌜ r ≡ weight set value ⌝ }
 {
     if set {

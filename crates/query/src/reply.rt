@@ -41,7 +41,7 @@ fn is_setting_query(low: u8) -> bool
     low == 10
 }
 
-pub fn is_query(byte: u8) -> bool
+pub(crate) fn is_query(byte: u8) -> bool
     ensures { λ r. ⌜ r ≡ isQuery byte ⌝ }
 {
     let block = byte / 16;

@@ -31,7 +31,7 @@ fn type_at(types: [u8; 16], at: u8) -> u16
 }
 
 // Query 153: the only type, or that there are several, which starts the walk.
-pub fn device_type_reply(gear: Gear) -> Outcome
+pub(crate) fn device_type_reply(gear: Gear) -> Outcome
     ensures { λ r. ⌜ r ≡ deviceType gear ⌝ }
 {
     let types = gear.unit.types;
@@ -72,7 +72,7 @@ fn next_at(gear: Gear, at: u8) -> Outcome
 }
 
 // Query 167: the next type of a walk, then that there is none; nothing where no walk is on.
-pub fn next_device_type_reply(gear: Gear) -> Outcome
+pub(crate) fn next_device_type_reply(gear: Gear) -> Outcome
     ensures { λ r. ⌜ r ≡ nextDeviceType gear ⌝ }
 {
     let marks = gear.marks;
