@@ -1,0 +1,84 @@
+-- The digits of a number: one at a time from its end, how many there are, and that they say the number.
+use Prim.Native.Nat.{ℕ, zero, suc, _+_, _-_, _*_, _/_, _%_, _^_, _≤_, _<_}
+use native.Mathlib.Nat.{pow-suc, div-lt-iff-lt-mul, div-add-mod'}
+use native.Mathlib.Omega.{arith}
+use mathlib.Core.Path.{_≡_, refl, ap}
+use mathlib.Core.List.{List, [], _∷_, _++_}
+use lib.Dec.{ltb}
+use lib.ListN.{length, getD, length-append, List·getD-append}
+use borrow.Author.Tests.{lt-ltb, le-ltb, ltb-false}
+use Rattle.runner.specs.Line.{digit, digits}
+use Rattle.numbers.proofs.Logic.{by-cases}
+
+pub digits-none : (most n : ℕ) → most ≡ 0 → digits most n ≡ []
+unfolding digits
+digits-none most n e = rw e
+
+pub digits-one : (most n : ℕ) → 0 < most → n < 10 → digits most n ≡ digit n ∷ []
+unfolding digits
+digits-one zero n h small = absurd (omega arith)
+digits-one (suc most) n h small = rw (lt-ltb n 10 small)
+
+pub digits-more : (most n : ℕ) → 0 < most → 10 ≤ n → digits most n ≡ digits (most - 1) (n / 10) ++ (digit (n % 10) ∷ [])
+unfolding digits
+digits-more zero n h large = absurd (omega arith)
+digits-more (suc most) n h large =
+    let less : most ≡ suc most - 1 = omega arith in
+    rw (le-ltb n 10 large) (ap (λ k. digits k (n / 10) ++ (digit (n % 10) ∷ [])) less)
+
+-- ## How many
+
+pub digits-length : (most n k : ℕ) → 0 < k → n < 10 ^ k → length (digits most n) ≤ k
+unfolding digits
+digits-length zero n k h small = omega arith
+digits-length (suc most) n zero h small = absurd (omega arith)
+digits-length (suc most) n (suc zero) h small = rw (lt-ltb n 10 small) (omega arith)
+digits-length (suc most) n (suc (suc k)) h small =
+    by-cases (ltb n 10)
+    (λ one. rw one (omega arith))
+    (λ more.
+    let fewer : n / 10 < 10 ^ suc k = (div-lt-iff-lt-mul (omega arith)) .1 (rw pow-suc at small) in
+    let before = digits-length most (n / 10) (suc k) (omega arith) fewer in
+    rw (more, length-append) (omega arith))
+
+-- ## What they say
+
+-- a text of digits read as a number, behind one that was read already
+abbrev pub value : ℕ → List ℕ → ℕ
+value v [] = v
+value v (d ∷ ds) = value (v * 10 + (d - 48)) ds
+
+value-snoc : (v : ℕ) (ds : List ℕ) (d : ℕ) → value v (ds ++ (d ∷ [])) ≡ value v ds * 10 + (d - 48)
+value-snoc v [] d = refl
+value-snoc v (x ∷ ds) d = value-snoc (v * 10 + (x - 48)) ds d
+
+-- read again, the digits are the number
+pub digits-value : (most n : ℕ) → n < 10 ^ most → value 0 (digits most n) ≡ n
+unfolding digits
+digits-value zero n small = omega arith
+digits-value (suc most) n small =
+    by-cases (ltb n 10)
+    (λ one. rw one (omega arith))
+    (λ more.
+    let fewer : n / 10 < 10 ^ most = (div-lt-iff-lt-mul (omega arith)) .1 (rw pow-suc at small) in
+    rw (more, value-snoc, digits-value most (n / 10) fewer) (omega (arith, div-add-mod' n 10)))
+
+some : (most n : ℕ) → 0 < most → 0 < length (digits most n)
+unfolding digits
+some zero n h = absurd (omega arith)
+some (suc most) n h = by-cases (ltb n 10) (λ one. rw one (omega arith)) (λ more. rw (more, length-append) (omega arith))
+
+-- no leading zero, but for 0 itself
+pub digits-first : (most n : ℕ) → 0 < n → n < 10 ^ most → 48 < getD (digits most n) 0 0
+unfolding digits
+digits-first zero n h small = absurd (omega arith)
+digits-first (suc zero) n h small = rw (lt-ltb n 10 small) (omega arith)
+digits-first (suc (suc most)) n h small =
+    by-cases (ltb n 10)
+    (λ one. rw one (omega arith))
+    (λ more.
+    let large = ltb-false n 10 more in
+    let fewer : n / 10 < 10 ^ suc most = (div-lt-iff-lt-mul (omega arith)) .1 (rw pow-suc at small) in
+    rw more
+    (rw (List·getD-append (digits (suc most) (n / 10)) (digit (n % 10) ∷ []) 0 0 (some (suc most) (n / 10) (omega arith)))
+    (digits-first (suc most) (n / 10) (omega arith) fewer)))

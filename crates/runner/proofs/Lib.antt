@@ -1,0 +1,8 @@
+pub mod Accepted
+pub mod Digits
+mod Example
+pub mod Lines
+pub mod Lowest
+pub mod Offset
+pub mod Shape
+pub mod Written

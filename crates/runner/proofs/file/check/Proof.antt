@@ -1,0 +1,15 @@
+-- `file::check` meets its contract: the first fault from the front is the lowest.
+use mathlib.Core.Path.{_∙_}
+use borrow.Author.Needs.{needs}
+use Rattle.runner.proofs.Lowest.{lowest}
+use Rattle.runner.proofs.file.check.Statement.{statement}
+use Rattle.runner.proofs.file.check.Tie as tie
+
+file-front-requires : tie.Need-file-front-requires
+file-front-requires c κs = search needs
+
+returns : tie.Need-returns
+returns c = c .file-front .ensures ∙ lowest _
+
+pub check-spec : {M : Type 1} → statement M
+check-spec = tie.close (tie.spec file-front-requires returns)

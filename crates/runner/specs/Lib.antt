@@ -1,0 +1,4 @@
+pub mod File
+pub mod Front
+pub mod Line
+pub mod Profile

@@ -1,0 +1,3 @@
+// The session file and its runner: the file's three sections as parts of the lent bytes, and the lines that a run writes.
+pub mod file;
+mod line;
