@@ -2,3 +2,4 @@ pub mod File
 pub mod Front
 pub mod Line
 pub mod Profile
+pub mod Step
