@@ -82,3 +82,11 @@ digits-first (suc (suc most)) n h small =
     rw more
     (rw (List·getD-append (digits (suc most) (n / 10)) (digit (n % 10) ∷ []) 0 0 (some (suc most) (n / 10) (omega arith)))
     (digits-first (suc most) (n / 10) (omega arith) fewer)))
+
+-- never more digits than asked for
+pub digits-most : (most n : ℕ) → length (digits most n) ≤ most
+unfolding digits
+digits-most zero n = omega arith
+digits-most (suc most) n =
+    by-cases (ltb n 10) (λ e. rw e (omega arith))
+    (λ e. rw e (let h = digits-most most (n / 10) in rw length-append (omega arith)))

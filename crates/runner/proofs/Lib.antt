@@ -4,5 +4,6 @@ mod Example
 pub mod Lines
 pub mod Lowest
 pub mod Offset
+pub mod Running
 pub mod Shape
 pub mod Written

@@ -9,20 +9,13 @@ use Rattle.gear.specs.declared.answer.Answer.the-variants.{Done, Value, Nothing
 use Rattle.gear.specs.declared.answer.Refusal.{Refusal}
 use Rattle.gear.specs.declared.answer.Refusal.the-variants.{Profile, Unfit, Byte, Group, File}
 use Rattle.runner.specs.Line.{digits, numberText, answerText, lineText, endText, badText}
-use Rattle.runner.proofs.Digits.{digits-length}
+use Rattle.runner.proofs.Digits.{digits-length, digits-most}
 
 -- ## Lengths
 
 number-length : (n behind k : ℕ) → length (digits 5 n) ≤ k → length (numberText n behind) ≤ k + 1
 unfolding numberText
 number-length n behind k h = rw length-append (omega arith)
-
--- a value is a word
-abbrev pub Word : Answer → Type 0
-Word Done = Unit {0}
-Word (Value n) = n < 65536
-Word Nothing = Unit {0}
-Word (Refused r) = Unit {0}
 
 refusal-length : (r : Refusal) → length (answerText (Refused r)) ≡ 2
 unfolding answerText digits
@@ -32,19 +25,19 @@ refusal-length Byte = refl
 refusal-length Group = refl
 refusal-length File = refl
 
-answer-length : (a : Answer) → Word a → length (answerText a) ≤ 5
+answer-length : (a : Answer) → length (answerText a) ≤ 5
 unfolding answerText
-answer-length Done w = omega arith
-answer-length (Value n) w = digits-length 5 n 5 (omega arith) (omega arith)
-answer-length Nothing w = omega arith
-answer-length (Refused r) w = omega (arith, refusal-length r)
+answer-length Done = omega arith
+answer-length (Value n) = digits-most 5 n
+answer-length Nothing = omega arith
+answer-length (Refused r) = omega (arith, refusal-length r)
 
 -- a line of one of at most 4,096 steps
-pub line-length : (number : ℕ) (a : Answer) → number ≤ 4096 → Word a → length (lineText number a) ≤ 11
+pub line-length : (number : ℕ) (a : Answer) → number ≤ 4096 → length (lineText number a) ≤ 11
 unfolding lineText
-line-length number a few w =
+line-length number a few =
     let first = number-length number 32 4 (digits-length 5 number 4 (omega arith) (omega arith)) in
-    let second = answer-length a w in
+    let second = answer-length a in
     rw length-append (rw length-append (omega arith))
 
 pub end-length : (level min max : ℕ) → level < 256 → min < 256 → max < 256 → length (endText level min max) ≤ 16

@@ -2,4 +2,5 @@ pub mod File
 pub mod Front
 pub mod Line
 pub mod Profile
+pub mod Run
 pub mod Step
