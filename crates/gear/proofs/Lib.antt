@@ -1,4 +1,5 @@
 pub mod Bounds
+pub mod Built
 pub mod Fit
 pub mod Kept
 pub mod Member
