@@ -7,3 +7,4 @@ pub mod Offset
 pub mod Running
 pub mod Shape
 pub mod Written
+pub mod Whole

@@ -48,6 +48,11 @@ end-length level min max hl hn hx =
     let c = number-length max 10 3 (digits-length 5 max 3 (omega arith) (omega arith)) in
     simp length-append (omega arith)
 
+pub end-fits :
+    (at level min max : ℕ) {room : ℕ} → level < 256 → min < 256 → max < 256 → at + 16 ≤ room →
+    at + length (endText level min max) ≤ room
+end-fits at level min max hl hn hx h = let l = end-length level min max hl hn hx in omega arith
+
 pub bad-length : (offset : ℕ) → offset ≤ 16412 → length (badText offset) ≤ 10
 unfolding badText
 bad-length offset h =

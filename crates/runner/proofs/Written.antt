@@ -58,13 +58,18 @@ room-then {old} {mid} {at} {r} {a} b room w =
     let same = ap length (w .bytes) ∙ length-written old at a (omega (arith, length-append a b)) in
     omega (arith, same, w .next-is, length-append a b)
 
-pub wrote-then :
+pub wrote-behind :
     {old mid new : List ℕ} {at r e : ℕ} {a b : List ℕ} →
-    at + length (a ++ b) ≤ length old → Wrote old at a mid r → Wrote mid r b new e → Wrote old at (a ++ b) new e
-wrote-then {old} {mid} {new} {at} {r} {e} {a} {b} room first second =
+    at ≤ length old → Wrote old at a mid r → Wrote mid r b new e → Wrote old at (a ++ b) new e
+wrote-behind {old} {mid} {new} {at} {r} {e} {a} {b} within first second =
     record {
       bytes =
           second .bytes ∙ ap (λ l. written l r b) (first .bytes) ∙ ap (λ k. written (written old at a) k b) (first .next-is) ∙
-          written-append old at a b (omega arith);
+          written-append old at a b within;
       next-is = second .next-is ∙ ap (λ k. k + length b) (first .next-is) ∙ add-assoc at (length a) (length b) ∙ ap (λ k. at + k) (sym (length-append a b));
     }
+
+pub wrote-then :
+    {old mid new : List ℕ} {at r e : ℕ} {a b : List ℕ} →
+    at + length (a ++ b) ≤ length old → Wrote old at a mid r → Wrote mid r b new e → Wrote old at (a ++ b) new e
+wrote-then room first second = wrote-behind (omega arith) first second

@@ -100,8 +100,9 @@ fn put_letters(buf: &mut [u8], at: usize, a: u8, b: u8, c: u8, d: u8) -> usize
 
 // The last line: `end`, level, min and max.
 pub fn put_end(buf: &mut [u8], at: usize, level: u8, min: u8, max: u8) -> usize
-    requires { ⌜ at + length (endText level min max) ≤ length (now buf) ⌝ }
-    ensures { λ r. ⌜ Wrote (now (buf .entry)) at (endText level min max) (now (buf .exit)) r ⌝ }
+    requires { ⌜ at + 16 ≤ length (now buf) ⌝ }
+    ensures line { λ r. ⌜ Wrote (now (buf .entry)) at (endText level min max) (now (buf .exit)) r ⌝ }
+    ensures within { λ r. ⌜ r ≤ length (now (buf .entry)) ⌝ }
 {
     let second = put_letters(buf, at, b'e', b'n', b'd', SPACE);
     let third = put_number(buf, second, level as usize, SPACE);

@@ -1,4 +1,5 @@
 -- `line::put_end` meets its contract: each number is right behind what is before it.
+use Rattle.runner.proofs.Lines.{end-fits}
 use Rattle.runner.proofs.Written.{room-then, wrote-then}
 use native.Mathlib.Omega.{arith}
 use lib.ListN.{length-append}
@@ -13,7 +14,9 @@ unfolding endText
 put-letters-requires c κs =
     let start = c .before .before in
     let a = start .args in
-    omega (arith, start .pre, length-append (101 ∷ 110 ∷ 100 ∷ 32 ∷ []) (numberText (a .level) 32 ++ (numberText (a .min) 32 ++ numberText (a .max) 10)))
+    let room =
+    end-fits (a .at) (a .level) (a .min) (a .max) (omega (arith, start .good)) (omega (arith, start .good)) (omega (arith, start .good)) (start .pre) in
+    omega (arith, room, length-append (101 ∷ 110 ∷ 100 ∷ 32 ∷ []) (numberText (a .level) 32 ++ (numberText (a .min) 32 ++ numberText (a .max) 10)))
 
 put-number-requires : tie.Need-put-number-requires
 unfolding endText
@@ -21,8 +24,10 @@ put-number-requires c κs =
     let w₁ = c .before .before .before in
     let start = w₁ .before .before .before in
     let a = start .args in
+    let room =
+    end-fits (a .at) (a .level) (a .min) (a .max) (omega (arith, start .good)) (omega (arith, start .good)) (omega (arith, start .good)) (start .pre) in
     let rest = numberText (a .min) 32 ++ numberText (a .max) 10 in
-    let r₁ = room-then (numberText (a .level) 32 ++ rest) (start .pre) (w₁ .put-letters .ensures) in
+    let r₁ = room-then (numberText (a .level) 32 ++ rest) room (w₁ .put-letters .ensures) in
     omega (arith, r₁, length-append (numberText (a .level) 32) rest)
 
 put-number-requires-2 : tie.Need-put-number-requires-2
@@ -32,8 +37,10 @@ put-number-requires-2 c κs =
     let w₁ = w₂ .before .before .before .before in
     let start = w₁ .before .before .before in
     let a = start .args in
+    let room =
+    end-fits (a .at) (a .level) (a .min) (a .max) (omega (arith, start .good)) (omega (arith, start .good)) (omega (arith, start .good)) (start .pre) in
     let rest = numberText (a .min) 32 ++ numberText (a .max) 10 in
-    let r₁ = room-then (numberText (a .level) 32 ++ rest) (start .pre) (w₁ .put-letters .ensures) in
+    let r₁ = room-then (numberText (a .level) 32 ++ rest) room (w₁ .put-letters .ensures) in
     let r₂ = room-then rest r₁ (w₂ .put-number .ensures) in
     omega (arith, r₂, length-append (numberText (a .min) 32) (numberText (a .max) 10))
 
@@ -45,8 +52,10 @@ put-number-requires-3 c κs =
     let w₁ = w₂ .before .before .before .before in
     let start = w₁ .before .before .before in
     let a = start .args in
+    let room =
+    end-fits (a .at) (a .level) (a .min) (a .max) (omega (arith, start .good)) (omega (arith, start .good)) (omega (arith, start .good)) (start .pre) in
     let rest = numberText (a .min) 32 ++ numberText (a .max) 10 in
-    let r₁ = room-then (numberText (a .level) 32 ++ rest) (start .pre) (w₁ .put-letters .ensures) in
+    let r₁ = room-then (numberText (a .level) 32 ++ rest) room (w₁ .put-letters .ensures) in
     let r₂ = room-then rest r₁ (w₂ .put-number .ensures) in
     room-then (numberText (a .max) 10) r₂ (w₃ .put-number2 .ensures)
 
@@ -62,10 +71,14 @@ returns c =
     let w₁ = w₂ .before .before .before .before in
     let start = w₁ .before .before .before in
     let a = start .args in
+    let room =
+    end-fits (a .at) (a .level) (a .min) (a .max) (omega (arith, start .good)) (omega (arith, start .good)) (omega (arith, start .good)) (start .pre) in
     let rest = numberText (a .min) 32 ++ numberText (a .max) 10 in
-    let r₁ = room-then (numberText (a .level) 32 ++ rest) (start .pre) (w₁ .put-letters .ensures) in
+    let r₁ = room-then (numberText (a .level) 32 ++ rest) room (w₁ .put-letters .ensures) in
     let r₂ = room-then rest r₁ (w₂ .put-number .ensures) in
-    wrote-then (start .pre) (w₁ .put-letters .ensures) (wrote-then r₁ (w₂ .put-number .ensures) (wrote-then r₂ (w₃ .put-number2 .ensures) (w₄ .put-number3 .ensures)))
+    let line =
+    wrote-then room (w₁ .put-letters .ensures) (wrote-then r₁ (w₂ .put-number .ensures) (wrote-then r₂ (w₃ .put-number2 .ensures) (w₄ .put-number3 .ensures))) in
+    (line, omega (arith, line .next-is, room))
 
 pub put-end-spec : {M : Type 1} → statement M
 put-end-spec =
