@@ -43,6 +43,7 @@ STEPS = [
     ("query Status 1", "'1' is a word too many: after 'Status' the line ends"),
     ("read 1", "after '1' an offset is wanted: a number from 0 to 255"),
     ("read x 1", "'x' is not a bank: a number from 0 to 255"),
+    ("write-memory 1", "after '1' an offset is wanted: a number from 0 to 255"),
     ("write-memory 1 2", "after '2' a value is wanted: a number from 0 to 255"),
     ("colour-value tcc", "'tcc' is not a colour value: a name ('session-text words' lists them) or a number from 0 to "
      "255; perhaps tc is meant"),
