@@ -15,20 +15,21 @@ The text of a session is the profile of a gear and then the steps to run on it, 
     channels N                  0 to 6; 0 where left out
     minimum N                   the physical minimum, 1 to 254; 1 where left out
 
-  arc LEVEL
-  write NAME [INDEX] [DTR0]   INDEX: the scene or the group, 0 to 15, for a command that has one;
-                              DTR0: always wanted for the commands Set.., else 0 where left out
-  query NAME [INDEX]
-  read BANK OFFSET
+  arc LEVEL                   arc power asks for a level
+  write NAME [INDEX] [DTR0]   a command that sets something. INDEX: the scene or the group, 0 to 15, where it has
+                              one. DTR0: always wanted for the commands Set.., else 0 where left out
+  query NAME [INDEX]          a command that asks something
+  read BANK OFFSET            what the memory has there
   write-memory BANK OFFSET VALUE
-  colour-value NAME|ID
-  tc-limit coolest|warmest|physical-coolest|physical-warmest|SELECTOR TC
-  tc-step cooler|warmer
-  stage-tc TC
-  activate
-  power-cycle
-  copy-report
-  features N
+  colour-value NAME|ID        a number of the active, the staged or the reported colour, or a Tc limit
+  tc-limit WHICH TC           stores a limit: coolest, warmest, physical-coolest, physical-warmest, or a
+                              selector's number
+  tc-step cooler|warmer       moves the active Tc by one
+  stage-tc TC                 prepares a colour temperature, for 'activate', arc power or a scene
+  activate                    the staged colour becomes the active one
+  power-cycle                 power goes and comes back
+  copy-report                 the reported colour is staged
+  features N                  the gear features; bit 0 lets arc power and scenes activate colours
   step KIND A B C             any step by its four bytes, also one that has no words
 
 For example:

@@ -6,6 +6,8 @@ from .files import EXAMPLE
 from .. import text
 from ..session import Malformed
 
+REACH = "the coolest limit, and at most 65534 is wanted"
+
 # Where in document 01's example a field is made bad, with what, and the offset that is then wanted. Fields:
 # 0 count, 1 type, 2 count, 3 short, 4 random, 7 flags, 8 channels, 9 coolest, 11 warmest, 13 minimum, 14 count.
 BAD_FIELDS = [
@@ -15,10 +17,10 @@ BAD_FIELDS = [
     (3, "FE", 3, "the short address is 254, and 0 to 63 or 255 is wanted"),
     (7, "20", 7, "the flags byte is 32, and 0 to 31 is wanted"),
     (8, "07", 8, "the number of channels is 7, and 0 to 6 is wanted"),
-    (9, "0191", 11, "the warmest limit is 400, and at least 401, the coolest limit, and at most 65534 is wanted"),
-    (9, "FFFF", 11, "the warmest limit is 400, and at least 65535, the coolest limit, and at most 65534 is wanted"),
-    (9, "FFFFFFFF", 11, "the warmest limit is 65535, and at least 65535, the coolest limit, and at most 65534 is wanted"),
-    (11, "FFFF", 11, "the warmest limit is 65535, and at least 153, the coolest limit, and at most 65534 is wanted"),
+    (9, "0191", 11, f"the warmest limit is 400, and at least 401, {REACH}"),
+    (9, "FFFF", 11, f"the warmest limit is 400, and at least 65535, {REACH}"),
+    (9, "FFFFFFFF", 11, f"the warmest limit is 65535, and at least 65535, {REACH}"),
+    (11, "FFFF", 11, f"the warmest limit is 65535, and at least 153, {REACH}"),
     (13, "00", 13, "the physical minimum is 0, and 1 to 254 is wanted"),
     (13, "FF", 13, "the physical minimum is 255, and 1 to 254 is wanted"),
     (14, "1001", 14, "the count of steps is 4097, and 0 to 4096 is wanted"),
