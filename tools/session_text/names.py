@@ -1,0 +1,107 @@
+"""The names that stand for bytes: commands (document 01, 'Command bytes'), Tc limits and colour values."""
+
+ROW = 16  # the bytes of a command for sixteen scenes or groups stand in a row
+
+
+class Commands:
+    """Names of command bytes. A name in 'rows' is one command for sixteen scenes or groups: an index follows it."""
+
+    def __init__(self, single, rows):
+        self.bytes = {name: byte for byte, name in single.items()}
+        self.bytes.update({name: first for first, (name, _) in rows.items()})
+        self.indexed = dict(rows.values())
+        self.by_byte = {byte: (name, None) for byte, name in single.items()}
+        for first, (name, _) in rows.items():
+            self.by_byte.update({first + index: (name, index) for index in range(ROW)})
+
+
+WRITES = Commands(
+    {
+        0: "Off",
+        1: "Up",
+        2: "Down",
+        3: "StepUp",
+        4: "StepDown",
+        5: "RecallMaxLevel",
+        6: "RecallMinLevel",
+        7: "StepDownAndOff",
+        8: "OnAndStepUp",
+        10: "GoToLastActiveLevel",
+        32: "Reset",
+        37: "IdentifyDevice",
+        42: "SetMaxLevel",
+        43: "SetMinLevel",
+        44: "SetSystemFailureLevel",
+        45: "SetPowerOnLevel",
+        46: "SetFadeTime",
+        47: "SetFadeRate",
+        48: "SetExtendedFadeTime",
+        129: "EnableWriteMemory",
+    },
+    {
+        16: ("GoToScene", "scene"),
+        64: ("SetScene", "scene"),
+        80: ("RemoveScene", "scene"),
+        96: ("AddToGroup", "group"),
+        112: ("RemoveFromGroup", "group"),
+    },
+)
+
+# The writes that store DTR0. One of these without a value is a slip, so the value must be given.
+STORES_DTR0 = {name for name in WRITES.bytes if name.startswith("Set")}
+
+# Part 102's names, without the word QUERY.
+QUERIES = Commands(
+    {
+        144: "Status",
+        145: "ControlGearPresent",
+        146: "LampFailure",
+        147: "LampPowerOn",
+        148: "LimitError",
+        149: "ResetState",
+        150: "MissingShortAddress",
+        151: "VersionNumber",
+        153: "DeviceType",
+        154: "PhysicalMinimum",
+        155: "PowerFailure",
+        158: "OperatingMode",
+        159: "LightSourceType",
+        160: "ActualLevel",
+        161: "MaxLevel",
+        162: "MinLevel",
+        163: "PowerOnLevel",
+        164: "SystemFailureLevel",
+        165: "FadeTimeFadeRate",
+        166: "ManufacturerSpecificMode",
+        167: "NextDeviceType",
+        168: "ExtendedFadeTime",
+        170: "ControlGearFailure",
+        192: "Groups0To7",
+        193: "Groups8To15",
+        194: "RandomAddressH",
+        195: "RandomAddressM",
+        196: "RandomAddressL",
+    },
+    {176: ("SceneLevel", "scene")},
+)
+
+TC_LIMITS = {"coolest": 0, "warmest": 1, "physical-coolest": 2, "physical-warmest": 3}
+
+TC_STEPS = {"cooler": 0, "warmer": 1}
+
+
+def colour_values():
+    """Part 209's ids: the active colour's from 0, the staged one's from 192 and the report's from 224, alike."""
+    own = {"x": 0, "y": 1, "tc": 2}
+    channels = ("red", "green", "blue", "white", "amber", "freecolour", "control")
+    own.update({name: 9 + place for place, name in enumerate(channels)})
+    ids = dict(own)
+    ids.update({"primary-count": 82})
+    ids.update({"coolest": 128, "physical-coolest": 129, "warmest": 130, "physical-warmest": 131})
+    for part, first in (("staged", 192), ("report", 224)):
+        ids.update({f"{part}-{name}": first + value for name, value in own.items()})
+        ids[f"{part}-type"] = first + 16
+    return ids
+
+
+COLOUR_VALUES = colour_values()
