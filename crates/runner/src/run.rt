@@ -28,7 +28,7 @@ struct Finished {
     at: usize,
 }
 
-fn performed(gear: Gear, steps: &[u8], k: usize) -> Outcome
+pub(crate) fn performed(gear: Gear, steps: &[u8], k: usize) -> Outcome
     requires { ⌜ (k < 4096) × (k * 4 + 4 ≤ length (now steps)) ⌝ }
     ensures { λ r. ⌜ r ≡ performed (now (steps .entry)) gear k ⌝ }
 {
