@@ -1,0 +1,39 @@
+-- Answers as a host sees them: a code, and a number beside it. The codes 1 to 5 are document 01's refusals.
+use Prim.Native.Nat.{ℕ}
+use Rattle.gear.specs.Answer.{refusalNumber}
+use Rattle.gear.specs.declared.answer.Answer.{Answer}
+use Rattle.gear.specs.declared.answer.Answer.the-variants.{Done, Value, Nothing, Refused}
+use Rattle.runner.specs.declared.file.Verdict.{Verdict}
+use Rattle.runner.specs.declared.file.Verdict.the-variants.{Good, Bad}
+use Rattle.runner.specs.declared.run.Ran.{Ran}
+use Rattle.runner.specs.declared.run.Ran.the-variants.{Lines, Malformed, Short}
+
+unfoldable pub verdictCode : Verdict → ℕ
+verdictCode Good = 0
+verdictCode (Bad offset) = 5
+
+unfoldable pub verdictDetail : Verdict → ℕ
+verdictDetail Good = 0
+verdictDetail (Bad offset) = offset
+
+unfoldable pub ranCode : Ran → ℕ
+ranCode (Lines count) = 0
+ranCode (Malformed offset) = 5
+ranCode (Short wanted) = 18
+
+unfoldable pub ranDetail : Ran → ℕ
+ranDetail (Lines count) = count
+ranDetail (Malformed offset) = offset
+ranDetail (Short wanted) = wanted
+
+unfoldable pub answerCode : Answer → ℕ
+answerCode Done = 0
+answerCode (Value value) = 16
+answerCode Nothing = 17
+answerCode (Refused r) = refusalNumber r
+
+unfoldable pub answerDetail : Answer → ℕ
+answerDetail Done = 0
+answerDetail (Value value) = value
+answerDetail Nothing = 0
+answerDetail (Refused r) = 0

@@ -1,0 +1,79 @@
+// Answers as two numbers, a code and its detail. The codes 1 to 5 are document 01's refusals.
+use gear::answer::Answer;
+use runner::file::Verdict;
+use runner::run::Ran;
+ghost use mathlib.Core.Path.{_≡_};
+ghost use Rattle.dali_gear.specs.Code.{answerCode, answerDetail, ranCode, ranDetail, verdictCode, verdictDetail};
+
+const DONE: u32 = 0;
+
+const MALFORMED: u32 = 5;
+
+const VALUE: u32 = 16;
+
+const NOTHING: u32 = 17;
+
+const SHORT: u32 = 18;
+
+pub fn verdict_code(verdict: Verdict) -> u32
+    ensures { λ r. ⌜ r ≡ verdictCode verdict ⌝ }
+{
+    match verdict {
+        Verdict::Good => DONE,
+        Verdict::Bad(_) => MALFORMED,
+    }
+}
+
+pub fn verdict_detail(verdict: Verdict) -> usize
+    ensures { λ r. ⌜ r ≡ verdictDetail verdict ⌝ }
+{
+    match verdict {
+        Verdict::Good => 0,
+        Verdict::Bad(offset) => offset,
+    }
+}
+
+pub fn ran_code(ran: Ran) -> u32
+    ensures { λ r. ⌜ r ≡ ranCode ran ⌝ }
+{
+    match ran {
+        Ran::Lines(_) => DONE,
+        Ran::Malformed(_) => MALFORMED,
+        Ran::Short(_) => SHORT,
+    }
+}
+
+pub fn ran_detail(ran: Ran) -> usize
+    ensures { λ r. ⌜ r ≡ ranDetail ran ⌝ }
+{
+    match ran {
+        Ran::Lines(count) => count,
+        Ran::Malformed(offset) => offset,
+        Ran::Short(wanted) => wanted,
+    }
+}
+
+pub fn answer_code(answer: Answer) -> u32
+    ensures { λ r. ⌜ r ≡ answerCode answer ⌝ }
+{
+    match answer {
+        Answer::Done => DONE,
+        Answer::Value(_) => VALUE,
+        Answer::Nothing => NOTHING,
+        Answer::Refused(refusal) => {
+            let number = refusal.number();
+            number as u32
+        }
+    }
+}
+
+pub fn answer_detail(answer: Answer) -> usize
+    ensures { λ r. ⌜ r ≡ answerDetail answer ⌝ }
+{
+    match answer {
+        Answer::Done => 0,
+        Answer::Value(value) => value as usize,
+        Answer::Nothing => 0,
+        Answer::Refused(_) => 0,
+    }
+}
