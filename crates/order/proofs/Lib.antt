@@ -1,1 +1,4 @@
+pub mod Columns
 pub mod Orders
+pub mod Slots
+pub mod Swap

@@ -1,0 +1,5 @@
+pub mod Keys
+pub mod Lists
+pub mod Rows
+pub mod Table
+pub mod Writes
