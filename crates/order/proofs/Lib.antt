@@ -1,4 +1,7 @@
 pub mod Columns
+pub mod Kept
 pub mod Orders
+pub mod Rowed
 pub mod Slots
 pub mod Swap
+pub mod Tied
