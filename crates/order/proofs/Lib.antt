@@ -1,4 +1,5 @@
 pub mod Columns
+pub mod EveryOrder
 pub mod Kept
 pub mod Orders
 pub mod Rowed

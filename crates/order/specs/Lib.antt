@@ -1,5 +1,6 @@
 pub mod Keys
 pub mod Lists
+pub mod Order
 pub mod Premises
 pub mod Rows
 pub mod Table
