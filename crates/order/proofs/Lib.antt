@@ -6,4 +6,5 @@ pub mod Orders
 pub mod Rowed
 pub mod Slots
 pub mod Swap
+pub mod Test
 pub mod Tied

@@ -5,4 +5,5 @@ pub mod Order
 pub mod Premises
 pub mod Rows
 pub mod Table
+pub mod Test
 pub mod Writes
