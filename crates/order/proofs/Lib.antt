@@ -2,6 +2,7 @@ pub mod Bytes
 pub mod Columns
 pub mod EveryOrder
 pub mod Kept
+pub mod Needed
 pub mod Orders
 pub mod Rowed
 pub mod Slots

@@ -45,7 +45,7 @@ sized-sound (TcLimit v s) t = ltb-true v 65536 t
 sized-sound Activation t = tt
 sized-sound (Memory bank offset v) t = tt
 
-keyed-sound : (w : Write) → both (any (keys w)) (sized w) ≡ true → Keyed w
+pub keyed-sound : (w : Write) → both (any (keys w)) (sized w) ≡ true → Keyed w
 keyed-sound w t =
     record { key = any-sound (keys w) (both-left (any (keys w)) (sized w) t); sized = sized-sound w (both-right (any (keys w)) (sized w) t) }
 

@@ -1,6 +1,7 @@
 pub mod Bytes
 pub mod Keys
 pub mod Lists
+pub mod Needed
 pub mod Order
 pub mod Premises
 pub mod Rows

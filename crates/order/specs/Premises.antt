@@ -6,13 +6,14 @@ use mathlib.Core.List.{List}
 use Rattle.order.specs.Keys.{Keyed, NoSharedKey}
 use Rattle.order.specs.Lists.{All, Apart}
 use Rattle.order.specs.Writes.{Write}
-use Rattle.order.specs.Writes.Write.{Standard}
+use Rattle.order.specs.Writes.Write.{ArcPower, Standard, TcStep, XyStep, TcLimit, Activation, Memory}
 use Rattle.colour.specs.Activation.{automatic, recall}
 use Rattle.colour.specs.declared.tint.ColorMode.the-variants.{None}
 use Rattle.colour.specs.Record.{withFeatures}
 use Rattle.colour.specs.Tint.{dark}
 use Rattle.gear.specs.Command.{commandOf}
-use Rattle.gear.specs.declared.command.StandardCommand.the-variants.{GoToScene}
+use Rattle.gear.specs.declared.command.StandardCommand.{StandardCommand}
+use Rattle.gear.specs.declared.command.StandardCommand.the-variants.{Arc, GoToScene, Reset, IdentifyDevice, Config, EnableWriteMemory, Unknown}
 use Rattle.gear.specs.declared.record.Gear.{Gear}
 use Rattle.gear.specs.Record.{fitb}
 use Rattle.gear.specs.Write.{sceneColour}
@@ -32,14 +33,33 @@ pub record Ready (g : Gear) : Type 0 where
 
 -- ---- 'nothing staged' in document 01's words
 
--- with activation on, the recall of a scene leaves the staged colour of a fresh gear
-abbrev pub LeavesNothing : Gear → ℕ → Type 0
-LeavesNothing g s = recall (withFeatures (g .colour) 1) (sceneColour g s) .pending ≡ dark 0xFF
+-- with activation on, the recall of scene s leaves the staged colour of a fresh gear
+abbrev pub RecallsClean : Gear → ℕ → Type 0
+RecallsClean g s = recall (withFeatures (g .colour) 1) (sceneColour g s) .pending ≡ dark 0xFF
 
--- the whole staged colour is that of a fresh gear, and so it is after each listed GoToScene
+-- asked of GoToScene alone
+abbrev pub CommandClean : Gear → StandardCommand → Type 0
+CommandClean g (GoToScene s) = RecallsClean g s
+CommandClean g (Arc a) = Unit {0}
+CommandClean g Reset = Unit {0}
+CommandClean g IdentifyDevice = Unit {0}
+CommandClean g (Config k) = Unit {0}
+CommandClean g EnableWriteMemory = Unit {0}
+CommandClean g Unknown = Unit {0}
+
+abbrev pub Clean : Gear → Write → Type 0
+Clean g (Standard byte dtr0) = CommandClean g (commandOf byte)
+Clean g (ArcPower level) = Unit {0}
+Clean g (TcStep warmer) = Unit {0}
+Clean g (XyStep y up) = Unit {0}
+Clean g (TcLimit value selector) = Unit {0}
+Clean g Activation = Unit {0}
+Clean g (Memory bank offset value) = Unit {0}
+
+-- the whole staged colour is that of a fresh gear, and each listed GoToScene would leave it so
 pub record NothingStaged (g : Gear) (ws : List Write) : Type 0 where
   pub pending : g .colour .pending ≡ dark 0xFF
-  pub scenes : All (λ w. (byte dtr0 s : ℕ) → w ≡ Standard byte dtr0 → commandOf byte ≡ GoToScene s → LeavesNothing g s) ws
+  pub scenes : All (Clean g) ws
 
 pub record Worded (g : Gear) (ws : List Write) : Type 0 where
   pub fit : fitb g ≡ true
