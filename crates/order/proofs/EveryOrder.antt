@@ -2,8 +2,9 @@
 use mathlib.Core.Path.{_≡_, _∙_, ap, sym, subst₂}
 use mathlib.Core.List.{List, List·Permᴰ}
 use Rattle.order.specs.Keys.{Disjoint, Keyed, NoSharedKey, keys}
+use Rattle.order.specs.Later.{outcomes}
 use Rattle.order.specs.Lists.{All, run}
-use Rattle.order.specs.Order.{EveryOrder, EveryOrderAsWorded}
+use Rattle.order.specs.Order.{EveryLaterAnswer, EveryOrder, EveryOrderAsWorded, EveryOrderThroughCalls}
 use Rattle.order.specs.Premises.{Listed, Ready, Worded}
 use Rattle.order.specs.Rows.{carry, columns, joined}
 use Rattle.order.specs.Table.{row}
@@ -11,6 +12,7 @@ use Rattle.order.specs.Writes.{Write, after}
 use Rattle.order.proofs.Columns.{turned}
 use Rattle.order.proofs.Kept.{ready-kept}
 use Rattle.order.proofs.Orders.{run-kept, same-end}
+use Rattle.order.proofs.Promises.{performed-run}
 use Rattle.order.proofs.Rowed.{rowed}
 use Rattle.order.proofs.Swap.{carry-swap}
 use Rattle.order.proofs.Tied.{tied}
@@ -40,3 +42,16 @@ worded-ready g ws h =
 
 pub every-order-as-worded : EveryOrderAsWorded
 every-order-as-worded g ws vs h = every-order g ws vs (worded-ready g ws h)
+
+-- ---- what follows
+
+-- whatever is asked of the record
+pub every-function :
+    {A : Type 0} (f : Gear → A) (g : Gear) (ws vs : List Write) → Ready g → Listed ws → List·Permᴰ ws vs → f (run after ws g) ≡ f (run after vs g)
+every-function f g ws vs h l p = ap f (every-order g ws vs h l p)
+
+pub every-later-answer : EveryLaterAnswer
+every-later-answer g ws vs h l p later = every-function (outcomes later) g ws vs h l p
+
+pub every-order-through-calls : EveryOrderThroughCalls
+every-order-through-calls g x y ws vs h l p a b = performed-run a ∙ every-order g ws vs h l p ∙ sym (performed-run b)

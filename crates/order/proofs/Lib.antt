@@ -4,6 +4,7 @@ pub mod EveryOrder
 pub mod Kept
 pub mod Needed
 pub mod Orders
+pub mod Promises
 pub mod Rowed
 pub mod Slots
 pub mod Swap

@@ -1,9 +1,11 @@
 pub mod Bytes
 pub mod Keys
+pub mod Later
 pub mod Lists
 pub mod Needed
 pub mod Order
 pub mod Premises
+pub mod Promises
 pub mod Rows
 pub mod Table
 pub mod Test
