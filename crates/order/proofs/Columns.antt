@@ -7,7 +7,8 @@ use mathlib.Core.Option.{Option, none, some}
 use lib.Dec.{eqb, leb}
 use Rattle.order.specs.Keys.{Key, Disjoint}
 use Rattle.order.specs.Keys.Key.{Scene, Group}
-use Rattle.order.specs.Rows.{ColourStep, GroupSlot, SceneSlot, colourStep, does, groupKeys, has, joined, readColour, readLevel, sceneKeys, settled, storeColour, storeGroup, storeLevel}
+use Rattle.order.specs.Carry.{colourStep, does, readColour, readLevel, settled, storeColour, storeGroup, storeLevel}
+use Rattle.order.specs.Rows.{ColourStep, GroupSlot, SceneSlot, groupKeys, has, joined, sceneKeys}
 use Rattle.order.specs.Rows.ColourStep.{Tc, Xy, Limit, Activated, SceneColour}
 use Rattle.order.specs.Rows.GroupSlot.{NoGroup, Member}
 use Rattle.order.specs.Rows.SceneSlot.{NoScene, At}

@@ -6,7 +6,8 @@ use Rattle.order.specs.Later.{outcomes}
 use Rattle.order.specs.Lists.{All, run}
 use Rattle.order.specs.Order.{EveryLaterAnswer, EveryOrder, EveryOrderAsWorded, EveryOrderThroughCalls}
 use Rattle.order.specs.Premises.{Listed, Ready, Worded}
-use Rattle.order.specs.Rows.{carry, columns, joined}
+use Rattle.order.specs.Carry.{carry}
+use Rattle.order.specs.Rows.{columns, joined}
 use Rattle.order.specs.Table.{row}
 use Rattle.order.specs.Writes.{Write, after}
 use Rattle.order.proofs.Columns.{turned}

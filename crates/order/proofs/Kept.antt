@@ -6,7 +6,8 @@ use mathlib.Core.Option.{Option, none, some}
 use lib.Dec.{eqb, leb}
 use Rattle.order.specs.Keys.{Keyed}
 use Rattle.order.specs.Premises.{Ready}
-use Rattle.order.specs.Rows.{ColourStep, Row, carry, colourStep, does, readColour, settled}
+use Rattle.order.specs.Carry.{carry, colourStep, does, readColour, settled}
+use Rattle.order.specs.Rows.{ColourStep, Row}
 use Rattle.order.specs.Rows.ColourStep.{Tc, Xy, Limit, Activated, SceneColour}
 use Rattle.order.specs.Table.{row}
 use Rattle.order.specs.Writes.{Write, Sized, after, perform}

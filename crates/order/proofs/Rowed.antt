@@ -6,7 +6,8 @@ use mathlib.Core.List.{List, []}
 use lib.Dec.{eqb}
 use Rattle.order.specs.Keys.{Keyed, commandKeys, keys}
 use Rattle.order.specs.Premises.{Ready}
-use Rattle.order.specs.Rows.{Row, carry, colourStep, marked, settled}
+use Rattle.order.specs.Carry.{carry, colourStep, marked, settled}
+use Rattle.order.specs.Rows.{Row}
 use Rattle.order.specs.Rows.ColourStep.{SceneColour}
 use Rattle.order.specs.Table.{arcRow, asking, commandRow, configRow, row}
 use Rattle.order.specs.Writes.{Write, after, perform}

@@ -12,7 +12,7 @@ use Rattle.colour.specs.Setting.{mask}
 use Rattle.gear.specs.Scene.{colourAt, levelAt, stored}
 use Rattle.numbers.specs.Numbers.{pick}
 use Rattle.numbers.proofs.Logic.{by-cases}
-use Rattle.order.specs.Rows.{store}
+use Rattle.order.specs.Carry.{store}
 
 abbrev pub Differ : ℕ → ℕ → Type 0
 Differ n m = n ≡ m → ⊥

@@ -2,7 +2,8 @@
 use mathlib.Core.Path.{_≡_, refl, _∙_, sym, ap}
 use Rattle.order.specs.Keys.{Disjoint}
 use Rattle.order.specs.Keys.Key.{Level, Colour as ColourKey, FadeTime, FadeRate, ExtendedFade, PowerOn, SystemFailure, Bank1}
-use Rattle.order.specs.Rows.{ColourStep, Row, carry, colourStep, columns, does, joined, levelStep, marked, readColour, readLevel, setLevelOf, setNumber, settled, storeByte, storeColour, storeLevel}
+use Rattle.order.specs.Carry.{carry, colourStep, does, levelStep, marked, readColour, readLevel, setLevelOf, setNumber, settled, storeByte, storeColour, storeLevel}
+use Rattle.order.specs.Rows.{ColourStep, Row, columns, joined}
 use Rattle.order.proofs.Columns.{Each, colour-swap, does-swap, each, group-swap, level-swap, pick-swap, read-colour, read-level, settled-does, settled-swap, turned}
 use Rattle.colour.specs.declared.record.Colour.{Colour}
 use Rattle.colour.specs.declared.setting.ColourSetting.{ColourSetting}

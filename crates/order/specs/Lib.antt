@@ -1,4 +1,5 @@
 pub mod Bytes
+pub mod Carry
 pub mod Keys
 pub mod Later
 pub mod Lists
