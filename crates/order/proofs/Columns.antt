@@ -6,9 +6,9 @@ use mathlib.Core.List.{List, [], _∷_, List·Memᴰ, List·Memᴰ·head, Memᴰ
 use mathlib.Core.Option.{Option, none, some}
 use lib.Dec.{eqb, leb}
 use Rattle.order.specs.Keys.{Key, Disjoint}
-use Rattle.order.specs.Keys.Key.{Scene, Group}
+use Rattle.order.specs.Keys.Key.{Level, Colour as ColourKey, FadeTime, FadeRate, ExtendedFade, PowerOn, SystemFailure, Bank1, Scene, Group}
 use Rattle.order.specs.Carry.{colourStep, does, readColour, readLevel, settled, storeColour, storeGroup, storeLevel}
-use Rattle.order.specs.Rows.{ColourStep, GroupSlot, SceneSlot, groupKeys, has, joined, sceneKeys}
+use Rattle.order.specs.Rows.{ColourStep, GroupSlot, Row, SceneSlot, columns, groupKeys, has, joined, sceneKeys}
 use Rattle.order.specs.Rows.ColourStep.{Tc, Xy, Limit, Activated, SceneColour}
 use Rattle.order.specs.Rows.GroupSlot.{NoGroup, Member}
 use Rattle.order.specs.Rows.SceneSlot.{NoScene, At}
@@ -21,17 +21,49 @@ use Rattle.colour.specs.Steps.{storeTcLimit, tcStep, xyStep}
 use Rattle.numbers.specs.Numbers.{pick}
 use Rattle.numbers.proofs.Logic.{by-cases}
 
--- column by column
-abbrev pub Each : List (List Key) → List (List Key) → Type 0
+-- ---- from all keys at once to each column
+
+Each : List (List Key) → List (List Key) → Type 0
 Each [] ls = Unit {0}
 Each (k ∷ ks) [] = Unit {0}
 Each (k ∷ ks) (l ∷ ls) = Disjoint k l × Each ks ls
 
-pub each : (ks ls : List (List Key)) → Disjoint (joined ks) (joined ls) → Each ks ls
+each : (ks ls : List (List Key)) → Disjoint (joined ks) (joined ls) → Each ks ls
+unfolding Each
 each [] ls d = tt
 each (k ∷ ks) [] d = tt
 each (k ∷ ks) (l ∷ ls) d =
     (λ x m n. d x (Memᴰ·append-left (joined ks) m) (Memᴰ·append-left (joined ls) n), each ks ls (λ x m n. d x (Memᴰ·append-right k m) (Memᴰ·append-right l n)))
+
+-- no column of two rows shares a key
+pub record Parted (r q : Row) : Type 0 where
+  pub level : Disjoint (has Level (r .level)) (has Level (q .level))
+  pub colour : Disjoint (has ColourKey (r .colour)) (has ColourKey (q .colour))
+  pub scene : Disjoint (sceneKeys (r .scene)) (sceneKeys (q .scene))
+  pub fadeTime : Disjoint (has FadeTime (r .fadeTime)) (has FadeTime (q .fadeTime))
+  pub fadeRate : Disjoint (has FadeRate (r .fadeRate)) (has FadeRate (q .fadeRate))
+  pub extendedFade : Disjoint (has ExtendedFade (r .extendedFade)) (has ExtendedFade (q .extendedFade))
+  pub powerOn : Disjoint (has PowerOn (r .powerOn)) (has PowerOn (q .powerOn))
+  pub systemFailure : Disjoint (has SystemFailure (r .systemFailure)) (has SystemFailure (q .systemFailure))
+  pub group : Disjoint (groupKeys (r .group)) (groupKeys (q .group))
+  pub bank : Disjoint (has Bank1 (r .bank)) (has Bank1 (q .bank))
+
+pub parted : (r q : Row) → Disjoint (joined (columns r)) (joined (columns q)) → Parted r q
+unfolding Each
+parted r q d =
+    let e = each (columns r) (columns q) d in
+    record {
+      level = e .0;
+      colour = e .1 .0;
+      scene = e .1 .1 .0;
+      fadeTime = e .1 .1 .1 .0;
+      fadeRate = e .1 .1 .1 .1 .0;
+      extendedFade = e .1 .1 .1 .1 .1 .0;
+      powerOn = e .1 .1 .1 .1 .1 .1 .0;
+      systemFailure = e .1 .1 .1 .1 .1 .1 .1 .0;
+      group = e .1 .1 .1 .1 .1 .1 .1 .1 .0;
+      bank = e .1 .1 .1 .1 .1 .1 .1 .1 .1 .0;
+    }
 
 pub turned : {ks ls : List Key} → Disjoint ks ls → Disjoint ls ks
 turned d k m n = d k n m

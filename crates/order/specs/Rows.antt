@@ -6,7 +6,6 @@ use mathlib.Core.Option.{Option, none, some}
 use Rattle.order.specs.Keys.{Key}
 use Rattle.order.specs.Keys.Key.{Level, Colour as ColourKey, FadeTime, FadeRate, ExtendedFade, PowerOn, SystemFailure, WriteEnable, Bank1, Scene, Group}
 use Rattle.colour.specs.declared.setting.ColourSetting.{ColourSetting}
-use Rattle.gear.specs.Scene.{stored}
 use Rattle.level.specs.declared.arc.ArcCommand.{ArcCommand}
 
 -- ---- what a row may ask of a part
