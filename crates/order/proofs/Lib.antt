@@ -5,6 +5,7 @@ pub mod Kept
 pub mod Needed
 pub mod Orders
 pub mod Promises
+pub mod Replies
 pub mod Rowed
 pub mod Slots
 pub mod Swap

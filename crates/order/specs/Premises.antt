@@ -31,6 +31,10 @@ pub record Ready (g : Gear) : Type 0 where
   pub unstaged : g .colour .pending .mode ≡ None
   pub activates : automatic (g .colour) ≡ true
 
+-- whatever the list
+abbrev pub Strong : Gear → List Write → Type 0
+Strong g ws = Ready g
+
 -- ---- 'nothing staged' in document 01's words
 
 -- with activation on, the recall of scene s leaves the staged colour of a fresh gear

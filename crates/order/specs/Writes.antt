@@ -1,8 +1,10 @@
 -- The writes that document 01 gives keys to, and what each does: the rule of its call, to which the call is proved equal.
 use Prim.Native.Nat.{ℕ, _<_}
 use mathlib.Core.Bool.{Bool}
+use mathlib.Core.List.{List, [], _∷_}
 use Rattle.calls.specs.Colours.{activateCall, storeTcLimitCall, tcStepCall, xyStepCall}
 use Rattle.calls.specs.Memory.{writeMemoryCall}
+use Rattle.gear.specs.declared.answer.Answer.{Answer}
 use Rattle.gear.specs.declared.answer.Outcome.{Outcome}
 use Rattle.gear.specs.declared.record.Gear.{Gear}
 use Rattle.gear.specs.Write.{applyStandardWrite, directArcPower}
@@ -28,6 +30,11 @@ perform (Memory bank offset value) g = writeMemoryCall g bank offset value
 -- the record that a write leaves, served or refused
 abbrev pub after : Write → Gear → Gear
 after w g = perform w g .gear
+
+-- what the writes of a list answer, in turn
+unfoldable pub replies : List Write → Gear → List Answer
+replies [] g = []
+replies (w ∷ ws) g = perform w g .answer ∷ replies ws (after w g)
 
 -- a limit has 16 bits, as in the call: a wider one could make the record unfit. Of no other number is anything asked
 abbrev pub Sized : Write → Type 0
