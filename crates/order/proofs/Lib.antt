@@ -4,6 +4,7 @@ pub mod EveryOrder
 pub mod Kept
 pub mod Needed
 pub mod Orders
+pub mod Premises
 pub mod Promises
 pub mod Replies
 pub mod Rowed

@@ -1,5 +1,6 @@
 pub mod Bytes
 pub mod Carry
+pub mod Examples
 pub mod Keys
 pub mod Later
 pub mod Lists

@@ -2,8 +2,8 @@
 use mathlib.Core.Path.{_≡_}
 use mathlib.Core.Bool.{true}
 use mathlib.Core.List.{List, List·Permᴰ}
-use Rattle.order.specs.Keys.{Keyed}
-use Rattle.order.specs.Lists.{All, run}
+use Rattle.order.specs.Keys.{Keyed, NoSharedKey}
+use Rattle.order.specs.Lists.{All, Apart, run}
 use Rattle.order.specs.Premises.{Listed, NothingStaged, Worded}
 use Rattle.order.specs.Writes.{Write, after}
 use Rattle.colour.specs.Activation.{automatic}
@@ -33,4 +33,10 @@ pub record ActivationMatters (g : Gear) (ws vs : List Write) : Type 0 where
 pub record KeysMatter (g : Gear) (ws vs : List Write) : Type 0 where
   pub worded : Worded g ws
   pub keyed : All Keyed ws
+  pub differ : Differ g ws vs
+
+-- all but 'each write has a key': no key is shared, since one write has none
+pub record KeylessMatters (g : Gear) (ws vs : List Write) : Type 0 where
+  pub worded : Worded g ws
+  pub apart : Apart NoSharedKey ws
   pub differ : Differ g ws vs
