@@ -6,12 +6,13 @@ use mathlib.Core.Logic.{_⊎_, inl, inr}
 use mathlib.Core.List.{List, [], _∷_, List·Memᴰ, List·Memᴰ·head, List·Memᴰ·tail, List·Memᴰ·not-nil}
 use lib.Dec.{eqb, ltb}
 use borrow.Author.Tests.{eq-eqb, ltb-true}
-use Rattle.order.specs.Keys.{Disjoint, Key, Keyed, NoSharedKey, keys}
+use Rattle.order.specs.Keys.{Disjoint, Key, Keyed, NoSharedKey, commandKeys, configKeys, keys}
 use Rattle.order.specs.Lists.{All, Apart}
 use Rattle.order.specs.Premises.{Listed}
 use Rattle.order.specs.Test.{any, apart, disjoint, keyNumber, lacks, listed, sized}
 use Rattle.order.specs.Writes.{Write, Sized}
 use Rattle.order.specs.Writes.Write.{ArcPower, Standard, TcStep, XyStep, TcLimit, Activation, Memory}
+use Rattle.gear.specs.Command.{commandOf, configCommand, levelCommand}
 use Rattle.numbers.specs.Numbers.{both}
 use Rattle.numbers.proofs.Logic.{both-left, both-right, no-false}
 
@@ -65,3 +66,33 @@ listed-sound (w ∷ ws) t =
       keyed = All.more (keyed-sound w (both-left own (both (apart w ws) (listed ws)) t)) (more .keyed);
       apart = Apart.more (apart-sound w ws (both-left (apart w ws) (listed ws) rest)) (more .apart);
     }
+
+-- ---- what the test says: two writes for scenes and groups and one for each other key, all in one list
+pub every-key :
+    listed
+    (ArcPower 200 ∷
+    TcStep true ∷
+    Standard 46 5 ∷
+    Standard 47 7 ∷
+    Standard 48 0 ∷
+    Standard 45 100 ∷
+    Standard 44 50 ∷
+    Standard 129 0 ∷
+    Memory 1 3 9 ∷
+    Standard 64 120 ∷
+    Standard 81 0 ∷
+    Standard 96 0 ∷
+    Standard 113 0 ∷
+    []) ≡
+    true
+unfolding keys commandKeys configKeys commandOf levelCommand configCommand
+every-key = refl
+
+-- GoToScene 3 beside SetScene 4, but not beside SetScene 3, arc power or activation
+pub recall-keys :
+    (listed (Standard 19 0 ∷ Standard 68 90 ∷ []) ≡ true) ×
+    (listed (Standard 19 0 ∷ Standard 67 90 ∷ []) ≡ false) ×
+    (listed (Standard 19 0 ∷ ArcPower 90 ∷ []) ≡ false) ×
+    (listed (Standard 19 0 ∷ Activation ∷ []) ≡ false)
+unfolding keys commandKeys configKeys commandOf levelCommand configCommand
+recall-keys = (refl, refl, refl, refl)
