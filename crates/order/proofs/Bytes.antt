@@ -5,7 +5,7 @@ use mathlib.Core.List.{List, [], _∷_, map}
 use native.Mathlib.Nat.{add-zero, zero-add, add-suc, suc-add, le-of-suc-le-suc, not-suc-le-zero}
 use lib.ListN.{getD, List·getD-map}
 use Rattle.order.specs.Bytes.{byteKeys}
-use Rattle.order.specs.Keys.{Key, commandKeys, configKeys, keys}
+use Rattle.order.specs.Keys.{commandKeys, configKeys, keys}
 use Rattle.order.specs.Writes.Write.{Standard}
 use Rattle.gear.specs.Command.{commandOf, configCommand, levelCommand}
 

@@ -1,16 +1,15 @@
 -- P11, P12 and P13: each premise dropped alone, and two orders that differ.
 use Prim.Native.Nat.{ℕ}
 use mathlib.Core.Path.{_≡_, refl, _∙_, sym, ap}
-use mathlib.Core.Bool.{Bool, true, false}
-use mathlib.Core.List.{List, [], _∷_, List·Memᴰ·not-nil, List·Permᴰ·swap}
+use mathlib.Core.List.{[], _∷_, List·Memᴰ·not-nil, List·Permᴰ·swap}
 use lib.ListN.{getD}
 use native.Mathlib.Omega.{arith}
 use Rattle.order.specs.Examples.{gear, manual, profile, staged}
 use Rattle.order.specs.Keys.{commandKeys, configKeys, keys}
 use Rattle.order.specs.Lists.{All, Apart, run}
 use Rattle.order.specs.Needed.{ActivationMatters, KeylessMatters, KeysMatter, StagedMatters}
-use Rattle.order.specs.Writes.{Write, after, perform}
-use Rattle.order.specs.Writes.Write.{ArcPower, Standard, TcStep, XyStep, TcLimit, Activation, Memory}
+use Rattle.order.specs.Writes.{perform}
+use Rattle.order.specs.Writes.Write.{ArcPower, Standard}
 use Rattle.order.proofs.Premises.{fresh-worded}
 use Rattle.order.proofs.Test.{keyed-sound, listed-sound}
 use Rattle.calls.specs.Colours.{recoloured, setFeaturesCall, stageCall}

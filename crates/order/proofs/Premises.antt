@@ -1,10 +1,10 @@
 -- The premises are met: by every fresh gear, in document 01's words, and in the strong form also where numbers are left over.
-use Prim.Native.Nat.{ℕ, _<_}
-use mathlib.Core.Path.{_≡_, refl, _∙_, sym, ap}
-use mathlib.Core.Bool.{Bool, true, false}
+use Prim.Native.Nat.{ℕ}
+use mathlib.Core.Path.{_≡_, refl, ap}
+use mathlib.Core.Bool.{true}
 use mathlib.Core.List.{List, [], _∷_}
 use lib.Dec.{leb}
-use lib.ListN.{getD, getD-replicate, replicate}
+use lib.ListN.{getD-replicate, replicate}
 use native.Mathlib.Omega.{arith}
 use borrow.Author.Tests.{leb-false}
 use Rattle.order.specs.Examples.{used}
@@ -14,7 +14,6 @@ use Rattle.order.specs.Writes.{Write}
 use Rattle.order.specs.Writes.Write.{ArcPower, Standard, TcStep, XyStep, TcLimit, Activation, Memory}
 use Rattle.calls.specs.Colours.{activateCall, recoloured, stageCall}
 use Rattle.colour.specs.Activation.{activate, activated, automatic, recall, strays}
-use Rattle.colour.specs.declared.setting.ColourSetting.{ColourSetting}
 use Rattle.colour.specs.Limits.{effectiveCoolest, effectiveWarmest, limitsFit}
 use Rattle.colour.specs.Record.{fitb as colourFit, fresh, withFeatures}
 use Rattle.colour.specs.Setting.{factory, mask}
@@ -32,7 +31,6 @@ use Rattle.gear.specs.Serve.{serve}
 use Rattle.gear.specs.Types.{hasType, member}
 use Rattle.gear.proofs.Built.{fresh-fit}
 use Rattle.level.specs.Levels.{levelsFit}
-use Rattle.numbers.specs.Numbers.{pick}
 use Rattle.numbers.proofs.Logic.{by-cases}
 
 -- ---- a fresh gear

@@ -10,7 +10,7 @@ use Rattle.order.specs.Keys.{Disjoint, Keyed, NoSharedKey, commandKeys, 
 use Rattle.order.specs.Keys.Key.{Bank1}
 use Rattle.order.specs.Lists.{All, Apart}
 use Rattle.order.specs.Premises.{Ready}
-use Rattle.order.specs.Rows.{BankStep, Row, columns, has, joined}
+use Rattle.order.specs.Rows.{BankStep, has}
 use Rattle.order.specs.Table.{row}
 use Rattle.order.specs.Writes.{Write, after, perform, replies}
 use Rattle.order.specs.Writes.Write.{ArcPower, Standard, TcStep, XyStep, TcLimit, Activation, Memory}

@@ -1,13 +1,11 @@
 -- On a record that is fit, with no mode staged and activation on, every keyed write does what its row says.
 use Prim.Native.Nat.{ℕ}
-use mathlib.Core.Path.{_≡_, refl, _∙_, sym, ap}
+use mathlib.Core.Path.{_≡_, refl, _∙_, ap}
 use mathlib.Core.Bool.{Bool, true, false}
 use mathlib.Core.List.{List, []}
-use lib.Dec.{eqb}
 use Rattle.order.specs.Keys.{Keyed, commandKeys, keys}
 use Rattle.order.specs.Premises.{Ready}
 use Rattle.order.specs.Carry.{carry, colourStep, marked, settled}
-use Rattle.order.specs.Rows.{Row}
 use Rattle.order.specs.Rows.ColourStep.{SceneColour}
 use Rattle.order.specs.Table.{arcRow, asking, commandRow, configRow, row}
 use Rattle.order.specs.Writes.{Write, after, perform}
@@ -15,7 +13,7 @@ use Rattle.order.specs.Writes.Write.{ArcPower, Standard, TcStep, XyStep,
 use Rattle.order.proofs.Slots.{store-own}
 use Rattle.calls.specs.Colours.{activateCall, recoloured, storeTcLimitCall, tcStepCall, xyStepCall}
 use Rattle.calls.specs.Memory.{rebanked, writeMemoryCall}
-use Rattle.colour.specs.Activation.{activate, arcPower, automatic, recall}
+use Rattle.colour.specs.Activation.{arcPower, automatic, recall}
 use Rattle.colour.specs.declared.record.Colour.{Colour}
 use Rattle.colour.specs.declared.setting.ColourSetting.{ColourSetting}
 use Rattle.colour.specs.declared.tint.ColorMode.the-variants.{None}
@@ -38,7 +36,6 @@ use Rattle.gear.specs.Write.{applyStandardWrite, arcWrite, configWrite, directA
 use Rattle.level.specs.Arc.{arcLevels}
 use Rattle.level.specs.declared.arc.ArcCommand.{ArcCommand}
 use Rattle.level.specs.declared.arc.ArcCommand.the-variants.{DirectArcPower}
-use Rattle.numbers.specs.Numbers.{pick}
 
 -- ---- the colour, with no mode staged and activation on
 

@@ -1,18 +1,16 @@
 -- Two rows without a common key, carried out in either order, leave the same record: a line for each part.
-use mathlib.Core.Path.{_≡_, refl, _∙_, sym, ap}
+use mathlib.Core.Path.{_≡_, _∙_, sym, ap}
 use Rattle.order.specs.Keys.{Disjoint}
 use Rattle.order.specs.Keys.Key.{Level, Colour as ColourKey, FadeTime, FadeRate, ExtendedFade, PowerOn, SystemFailure, Bank1}
 use Rattle.order.specs.Carry.{carry, colourStep, does, levelStep, marked, readColour, readLevel, setLevelOf, setNumber, settled, storeByte, storeColour, storeLevel}
-use Rattle.order.specs.Rows.{ColourStep, Row, columns, joined}
+use Rattle.order.specs.Rows.{Row, columns, joined}
 use Rattle.order.proofs.Columns.{Parted, colour-swap, does-swap, group-swap, level-swap, parted, pick-swap, read-colour, read-level, settled-does, settled-swap, turned}
 use Rattle.colour.specs.declared.record.Colour.{Colour}
 use Rattle.colour.specs.declared.setting.ColourSetting.{ColourSetting}
 use Rattle.gear.specs.declared.marks.Marks.{Marks}
 use Rattle.gear.specs.declared.marks.Walk.the-variants.{Off}
 use Rattle.gear.specs.declared.record.Gear.{Gear}
-use Rattle.level.specs.declared.levels.Levels.{Levels}
-use mathlib.Core.Bool.{Bool, true, false}
-use mathlib.Core.Option.{Option}
+use mathlib.Core.Bool.{true, false}
 
 module _ (r q : Row) (d : Parted r q) (g : Gear) where
   levels-swap :

@@ -1,10 +1,8 @@
 -- A list that passes the test meets the premises.
-use Prim.Native.Nat.{ℕ, _<_}
 use mathlib.Core.Path.{_≡_, refl, _∙_, sym, ap}
 use mathlib.Core.Bool.{Bool, true, false, not}
-use mathlib.Core.Logic.{_⊎_, inl, inr}
 use mathlib.Core.List.{List, [], _∷_, List·Memᴰ, List·Memᴰ·head, List·Memᴰ·tail, List·Memᴰ·not-nil}
-use lib.Dec.{eqb, ltb}
+use lib.Dec.{eqb}
 use borrow.Author.Tests.{eq-eqb, ltb-true}
 use Rattle.order.specs.Keys.{Disjoint, Key, Keyed, NoSharedKey, commandKeys, configKeys, keys}
 use Rattle.order.specs.Lists.{All, Apart}

@@ -1,5 +1,4 @@
 -- What the Rattle call of each write promises, as its own `ensures` says it, and a run through the calls.
-use Prim.Native.Nat.{ℕ}
 use mathlib.Core.Path.{_≡_}
 use mathlib.Core.List.{List, [], _∷_}
 use Rattle.order.specs.Writes.{Write}
