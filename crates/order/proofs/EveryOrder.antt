@@ -1,12 +1,12 @@
 -- Demand 3: every order of a list without a shared key leaves the same record.
 use mathlib.Core.Path.{_≡_, _∙_, ap, sym, subst₂}
 use mathlib.Core.List.{List, List·Permᴰ}
+use Rattle.order.specs.Carry.{carry}
 use Rattle.order.specs.Keys.{Disjoint, Keyed, NoSharedKey}
 use Rattle.order.specs.Later.{outcomes}
 use Rattle.order.specs.Lists.{All, run}
 use Rattle.order.specs.Order.{AnyOrder}
 use Rattle.order.specs.Premises.{Listed, Ready, Strong, Worded}
-use Rattle.order.specs.Carry.{carry}
 use Rattle.order.specs.Table.{row}
 use Rattle.order.specs.Writes.{Write, after}
 use Rattle.order.proofs.Columns.{turned}

@@ -36,21 +36,6 @@ use Rattle.numbers.specs.Numbers.{pick}
 told-apart : (f : Gear → ℕ) (g h : Gear) (n m : ℕ) → f g ≡ n → f h ≡ m → (n ≡ m → ⊥) → g ≡ h → ⊥
 told-apart f g h n m p q d e = d (sym p ∙ ap f e ∙ q)
 
--- ---- P13: arc power 10 and 20, which share the level
-
-pub keys-matter : KeysMatter gear (ArcPower 10 ∷ ArcPower 20 ∷ []) (ArcPower 20 ∷ ArcPower 10 ∷ [])
-unfolding accepted run perform keys directArcPower serve fitb freshGear fresh factory unitFit shortFit floor isType hasType member levelsFit colourFit limitsFit effectiveCoolest effectiveWarmest liesWithin walkFit arcWrite asked keepsIdentify arcLevels arcLevel setLevel held arcPower automatic activate activated strays
-keys-matter =
-    record {
-      worded = fresh-worded profile (ArcPower 10 ∷ ArcPower 20 ∷ []) refl;
-      keyed = All.more (keyed-sound (ArcPower 10) refl) (All.more (keyed-sound (ArcPower 20) refl) All.none);
-      differ =
-          record {
-            order = List·Permᴰ·swap refl refl;
-            different = told-apart (λ g. g .levels .level) _ _ 20 10 refl refl (λ e. omega arith);
-          };
-    }
-
 -- ---- P11: with 300 staged, SetScene 0 and SetScene 1
 
 pub staged-matters : StagedMatters staged (Standard 64 10 ∷ Standard 65 20 ∷ []) (Standard 65 20 ∷ Standard 64 10 ∷ [])
@@ -81,6 +66,21 @@ activation-matters =
           record {
             order = List·Permᴰ·swap refl refl;
             different = told-apart (λ g. getD (g .colours) 1 mask .kind) _ _ 0x20 0xFF refl refl (λ e. omega arith);
+          };
+    }
+
+-- ---- P13: arc power 10 and 20, which share the level
+
+pub keys-matter : KeysMatter gear (ArcPower 10 ∷ ArcPower 20 ∷ []) (ArcPower 20 ∷ ArcPower 10 ∷ [])
+unfolding accepted run perform keys directArcPower serve fitb freshGear fresh factory unitFit shortFit floor isType hasType member levelsFit colourFit limitsFit effectiveCoolest effectiveWarmest liesWithin walkFit arcWrite asked keepsIdentify arcLevels arcLevel setLevel held arcPower automatic activate activated strays
+keys-matter =
+    record {
+      worded = fresh-worded profile (ArcPower 10 ∷ ArcPower 20 ∷ []) refl;
+      keyed = All.more (keyed-sound (ArcPower 10) refl) (All.more (keyed-sound (ArcPower 20) refl) All.none);
+      differ =
+          record {
+            order = List·Permᴰ·swap refl refl;
+            different = told-apart (λ g. g .levels .level) _ _ 20 10 refl refl (λ e. omega arith);
           };
     }
 

@@ -1,4 +1,5 @@
--- Each premise is needed: a record and two orders that differ, where all the other premises hold, in document 01's words.
+-- Each premise is needed: a record and two orders that differ, where all the other premises hold, in document 01's words (and so
+-- in the strong form, which they imply).
 use mathlib.Core.Path.{_≡_}
 use mathlib.Core.Bool.{true}
 use mathlib.Core.List.{List, List·Permᴰ}
