@@ -7,6 +7,7 @@ use Rattle.order.specs.Later.{outcomes}
 use Rattle.order.specs.Lists.{All, run}
 use Rattle.order.specs.Order.{AnyOrder}
 use Rattle.order.specs.Premises.{Listed, Ready, Strong, Worded}
+use Rattle.order.specs.Promises.{Performed}
 use Rattle.order.specs.Table.{row}
 use Rattle.order.specs.Writes.{Write, after}
 use Rattle.order.proofs.Columns.{turned}
@@ -15,6 +16,7 @@ use Rattle.order.proofs.Orders.{run-kept, same-end}
 use Rattle.order.proofs.Promises.{performed-run}
 use Rattle.order.proofs.Replies.{replies-alone}
 use Rattle.order.proofs.Rowed.{rowed}
+use Rattle.order.proofs.Sessions.{session-rules}
 use Rattle.order.proofs.Swap.{carry-swap}
 use Rattle.order.proofs.Tied.{tied}
 use Rattle.gear.specs.declared.record.Gear.{Gear}
@@ -32,6 +34,10 @@ every-order : (g : Gear) (ws vs : List Write) → Ready g → Listed ws → List
 every-order g ws vs h l p =
     same-end after Ready Keyed NoSharedKey (λ v w. turned) ready-kept swap p (l .keyed) (l .apart) g h
 
+through-calls :
+    (g x y : Gear) (ws vs : List Write) → Ready g → Listed ws → List·Permᴰ ws vs → Performed ws g x → Performed vs g y → x ≡ y
+through-calls g x y ws vs h l p a b = performed-run a ∙ every-order g ws vs h l p ∙ sym (performed-run b)
+
 -- no mode staged and activation on are enough
 pub any-order : AnyOrder Strong
 any-order =
@@ -39,7 +45,10 @@ any-order =
       record-same = every-order;
       later-same = λ g ws vs h l p later. ap (outcomes later) (every-order g ws vs h l p);
       replies-same = λ g ws h l. replies-alone g ws h (l .keyed) (l .apart);
-      calls-same = λ g x y ws vs h l p a b. performed-run a ∙ every-order g ws vs h l p ∙ sym (performed-run b);
+      calls-same = through-calls;
+      sessions-same =
+          λ g x y ws vs h l p a b later os ps m n.
+          session-rules m ∙ ap (outcomes later) (through-calls g x y ws vs h l p a b) ∙ sym (session-rules n);
     }
 
 -- document 01's premises are stronger
@@ -53,6 +62,7 @@ any-order-as-worded =
       later-same = λ g ws vs h. any-order .later-same g ws vs (worded-ready g ws h);
       replies-same = λ g ws h. any-order .replies-same g ws (worded-ready g ws h);
       calls-same = λ g x y ws vs h. any-order .calls-same g x y ws vs (worded-ready g ws h);
+      sessions-same = λ g x y ws vs h. any-order .sessions-same g x y ws vs (worded-ready g ws h);
     }
 
 -- the record is ready again after the list, so that another list may follow

@@ -8,6 +8,7 @@ pub mod Premises
 pub mod Promises
 pub mod Replies
 pub mod Rowed
+pub mod Sessions
 pub mod Slots
 pub mod Swap
 pub mod Test

@@ -24,7 +24,7 @@ performed-run (Performed.end e) = sym e
 performed-run (Performed.step {w = w} {ws = ws} {g = g} o p rest) = performed-run rest ∙ ap (λ x. run after ws (x .gear)) (promised-rule w g o p)
 
 -- the rules' own run is one, so that the statement is not empty
-rule-promised : (w : Write) (g : Gear) → Promised w g (perform w g)
+pub rule-promised : (w : Write) (g : Gear) → Promised w g (perform w g)
 unfolding perform
 rule-promised (ArcPower level) g = refl
 rule-promised (Standard byte dtr0) g = refl

@@ -9,6 +9,7 @@ pub mod Order
 pub mod Premises
 pub mod Promises
 pub mod Rows
+pub mod Sessions
 pub mod Table
 pub mod Test
 pub mod Writes

@@ -5,7 +5,9 @@ use Rattle.order.specs.Later.{Call, outcomes}
 use Rattle.order.specs.Lists.{run}
 use Rattle.order.specs.Premises.{Listed}
 use Rattle.order.specs.Promises.{Performed}
+use Rattle.order.specs.Sessions.{Session}
 use Rattle.order.specs.Writes.{Write, after, perform, replies}
+use Rattle.gear.specs.declared.answer.Outcome.{Outcome}
 use Rattle.gear.specs.declared.record.Gear.{Gear}
 
 -- For every record and every list that meet the premise, where each write of the list has a key and no two share one, and
@@ -22,3 +24,7 @@ pub record AnyOrder (Premise : Gear → List Write → Type 0) : Type 0 where
   -- for the Rattle calls themselves, by their own promises: the list performed through them hands back equal records
   pub calls-same :
       (g h k : Gear) (ws vs : List Write) → Premise g ws → Listed ws → List·Permᴰ ws vs → Performed ws g h → Performed vs g k → h ≡ k
+  -- and after it every session of later calls through them gives equal results, one by one
+  pub sessions-same :
+      (g h k : Gear) (ws vs : List Write) → Premise g ws → Listed ws → List·Permᴰ ws vs → Performed ws g h → Performed vs g k →
+      (later : List Call) (os ps : List Outcome) → Session later h os → Session later k ps → os ≡ ps
