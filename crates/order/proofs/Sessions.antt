@@ -1,5 +1,5 @@
 -- What a call promises is what its rule says, so a session through the calls gives what the rules give.
-use mathlib.Core.Path.{_≡_, refl, _∙_, sym, ap, ap₂}
+use mathlib.Core.Path.{_≡_, refl, _∙_, ap}
 use mathlib.Core.List.{List, [], _∷_}
 use Rattle.order.specs.Later.{Call, outcomes, rule}
 use Rattle.order.specs.Later.Call.{Perform, Query, Matches, Hear, Holds, HearElsewhere, PowerCycle, Stage, CopyReport, SetFeatures, ColourValue, ColourStatus, Features, ControlByte, FeatureByte, AutomaticActivation, MemoryLocation, AdvancesDtr0, ImplementsBank, SetLock, SetLastOffset, SetLocation, SetLogicalUnit, ClearIdentification, Status, LampOn, FailureBits, ThermalShutDown, LampFailure, ActualLevel, IsType, SetEnabled, SetLampFailure, SetLampStarting, SetFaults}
