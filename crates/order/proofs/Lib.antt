@@ -1,0 +1,15 @@
+pub mod Bytes
+pub mod Columns
+pub mod EveryOrder
+pub mod Kept
+pub mod Needed
+pub mod Orders
+pub mod Premises
+pub mod Promises
+pub mod Replies
+pub mod Rowed
+pub mod Sessions
+pub mod Slots
+pub mod Swap
+pub mod Test
+pub mod Tied

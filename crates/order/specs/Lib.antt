@@ -1,0 +1,15 @@
+pub mod Bytes
+pub mod Carry
+pub mod Examples
+pub mod Keys
+pub mod Later
+pub mod Lists
+pub mod Needed
+pub mod Order
+pub mod Premises
+pub mod Promises
+pub mod Rows
+pub mod Sessions
+pub mod Table
+pub mod Test
+pub mod Writes
