@@ -1,0 +1,120 @@
+/* A proved record of a DALI lighting gear, for programs in C.
+ *
+ * A session file holds a gear's profile and the steps sent to it (document 01, 'Session file and
+ * runner'; examples/README.md has a readable form of it). These functions judge a file, run it, and
+ * ask the record that its steps leave. What each of them answers is proved for every input; this
+ * header only carries their arguments over. They allocate nothing, keep nothing between calls, and
+ * may be called from several threads at once.
+ *
+ * Link target/staticlib/libdali_gear.a, which 'rt staticlib dali_gear' makes, into an x86-64 program.
+ */
+#ifndef DALI_GEAR_H
+#define DALI_GEAR_H
+
+#include <stddef.h>
+#include <stdint.h>
+
+#ifdef __cplusplus
+extern "C" {
+#endif
+
+/* What a call came to. The codes 1 to 5 are document 01's refusals under its own numbers. */
+enum dali_gear_code {
+    DALI_GEAR_DONE = 0,       /* done, and there is no value to give */
+    DALI_GEAR_PROFILE = 1,    /* profile not accepted */
+    DALI_GEAR_UNFIT = 2,      /* record not fit */
+    DALI_GEAR_BYTE = 3,       /* byte not in the call's table, or step kind not listed */
+    DALI_GEAR_GROUP = 4,      /* group address above 15 */
+    DALI_GEAR_MALFORMED = 5,  /* session file malformed; the detail is the offset of its lowest fault */
+    DALI_GEAR_VALUE = 16,     /* the detail is the value */
+    DALI_GEAR_NOTHING = 17,   /* no value: the gear has no answer to give */
+    DALI_GEAR_SHORT = 18      /* the buffer is too short; the detail is the number of bytes it needs */
+};
+
+/* A session file has at most so many bytes. */
+#define DALI_GEAR_FILE_MAX 16412
+
+/* A buffer of so many bytes is long enough for the lines of every file. */
+#define DALI_GEAR_LINES_MAX 45072
+
+/* A code, and the number that belongs to it. */
+struct dali_gear_result {
+    uint32_t code;
+    size_t detail;
+};
+
+/* The library itself. Its pointers are never null, which the functions below see to. */
+uint32_t dali_gear_check(const uint8_t *file, size_t file_len, size_t *detail);
+size_t dali_gear_room(const uint8_t *file, size_t file_len);
+uint32_t dali_gear_run(const uint8_t *file, size_t file_len, uint8_t *out, size_t out_len, size_t *detail);
+uint32_t dali_gear_report(const uint8_t *file, size_t file_len, uint8_t *out, size_t out_len, size_t *detail);
+uint32_t dali_gear_ask(const uint8_t *file, size_t file_len, uint8_t kind, uint8_t a, uint8_t b, uint8_t c,
+                       size_t *detail);
+
+/* No bytes: a null pointer is taken as none of them, whatever the length that came with it. */
+static inline const uint8_t *dali_gear_bytes(const uint8_t *bytes, size_t *len) {
+    static const uint8_t none = 0;
+    if (bytes != NULL) return bytes;
+    *len = 0;
+    return &none;
+}
+
+static inline uint8_t *dali_gear_space(uint8_t *bytes, size_t *len) {
+    static uint8_t none; /* never written: its length is 0 */
+    if (bytes != NULL) return bytes;
+    *len = 0;
+    return &none;
+}
+
+/* Judges a session file: DONE where it is well formed, else MALFORMED with the offset. */
+static inline struct dali_gear_result dali_gear_session_check(const uint8_t *file, size_t file_len) {
+    struct dali_gear_result result;
+    file = dali_gear_bytes(file, &file_len);
+    result.code = dali_gear_check(file, file_len, &result.detail);
+    return result;
+}
+
+/* The bytes that a buffer needs for the lines of this file, whatever they come to. */
+static inline size_t dali_gear_session_room(const uint8_t *file, size_t file_len) {
+    file = dali_gear_bytes(file, &file_len);
+    return dali_gear_room(file, file_len);
+}
+
+/* Runs a session file and writes its lines to out: DONE with the number of bytes written, MALFORMED
+ * with the offset, or SHORT with the bytes that out needs. In the last two cases no byte of out is
+ * written. The file and out must not overlap. */
+static inline struct dali_gear_result dali_gear_session_run(const uint8_t *file, size_t file_len, uint8_t *out,
+                                                            size_t out_len) {
+    struct dali_gear_result result;
+    file = dali_gear_bytes(file, &file_len);
+    out = dali_gear_space(out, &out_len);
+    result.code = dali_gear_run(file, file_len, out, out_len, &result.detail);
+    return result;
+}
+
+/* The same, but a malformed file has a line too, 'bad' and the offset, as in the program session. */
+static inline struct dali_gear_result dali_gear_session_report(const uint8_t *file, size_t file_len, uint8_t *out,
+                                                               size_t out_len) {
+    struct dali_gear_result result;
+    file = dali_gear_bytes(file, &file_len);
+    out = dali_gear_space(out, &out_len);
+    result.code = dali_gear_report(file, file_len, out, out_len, &result.detail);
+    return result;
+}
+
+/* Performs one more step, of the session's kinds, on the record that the file's steps leave, and gives
+ * its answer: DONE, VALUE with the value, NOTHING, or a refusal. The file stays as it is: to keep the
+ * step, add it to the file. So kind 2 with a = 160 asks for the level that the lamp has now. */
+static inline struct dali_gear_result dali_gear_session_ask(const uint8_t *file, size_t file_len, uint8_t kind,
+                                                            uint8_t a, uint8_t b, uint8_t c) {
+    struct dali_gear_result result;
+    file = dali_gear_bytes(file, &file_len);
+    result.code = dali_gear_ask(file, file_len, kind, a, b, c, &result.detail);
+    return result;
+}
+
+#ifdef __cplusplus
+}
+#endif
+
+#endif

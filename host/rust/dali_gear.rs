@@ -1,0 +1,141 @@
+//! A proved record of a DALI lighting gear, for programs in Rust.
+//!
+//! A session file holds a gear's profile and the steps sent to it. These functions judge a file, run it,
+//! and ask the record that its steps leave. What each of them answers is proved for every input; this
+//! file only carries arguments and answers over. It uses nothing of the standard library.
+#![no_std]
+
+/// A session file has at most so many bytes.
+pub const FILE_MAX: usize = 16412;
+
+/// A buffer of so many bytes is long enough for the lines of every file.
+pub const LINES_MAX: usize = 45072;
+
+/// Why a call was refused; `number` gives document 01's number.
+#[derive(Clone, Copy, Debug, PartialEq, Eq)]
+pub enum Refusal {
+    /// Profile not accepted.
+    Profile,
+    /// Record not fit.
+    Unfit,
+    /// Byte not in the call's table, or step kind not listed.
+    Byte,
+    /// Group address above 15.
+    Group,
+    /// Session file malformed.
+    File,
+}
+
+impl Refusal {
+    pub fn number(self) -> u32 {
+        match self {
+            Refusal::Profile => 1,
+            Refusal::Unfit => 2,
+            Refusal::Byte => 3,
+            Refusal::Group => 4,
+            Refusal::File => 5,
+        }
+    }
+
+    fn of(number: u32) -> Refusal {
+        match number {
+            1 => Refusal::Profile,
+            2 => Refusal::Unfit,
+            3 => Refusal::Byte,
+            4 => Refusal::Group,
+            _ => Refusal::File,
+        }
+    }
+}
+
+/// What a step answers.
+#[derive(Clone, Copy, Debug, PartialEq, Eq)]
+pub enum Answer {
+    Done,
+    Value(u16),
+    Nothing,
+    Refused(Refusal),
+}
+
+/// Why a file was not run. Nothing is written then.
+#[derive(Clone, Copy, Debug, PartialEq, Eq)]
+pub enum NotRun {
+    /// Refusal 5, with the offset of the file's lowest fault.
+    Malformed(usize),
+    /// The buffer is too short, with the bytes that it needs.
+    Short(usize),
+}
+
+/// One step of a session: kind, a, b and c.
+#[derive(Clone, Copy, Debug, PartialEq, Eq)]
+pub struct Step(pub u8, pub u8, pub u8, pub u8);
+
+const DONE: u32 = 0;
+const MALFORMED: u32 = 5;
+const VALUE: u32 = 16;
+const NOTHING: u32 = 17;
+
+mod library {
+    extern "C" {
+        pub fn dali_gear_check(file: *const u8, file_len: usize, detail: &mut usize) -> u32;
+        pub fn dali_gear_room(file: *const u8, file_len: usize) -> usize;
+        pub fn dali_gear_run(
+            file: *const u8,
+            file_len: usize,
+            out: *mut u8,
+            out_len: usize,
+            detail: &mut usize,
+        ) -> u32;
+        pub fn dali_gear_ask(
+            file: *const u8,
+            file_len: usize,
+            kind: u8,
+            a: u8,
+            b: u8,
+            c: u8,
+            detail: &mut usize,
+        ) -> u32;
+    }
+}
+
+/// Judges a session file: the offset of its lowest fault where it is malformed.
+pub fn check(file: &[u8]) -> Result<(), usize> {
+    let mut detail = 0;
+    // The pointers come from references that live through the call, with their own lengths.
+    match unsafe { library::dali_gear_check(file.as_ptr(), file.len(), &mut detail) } {
+        DONE => Ok(()),
+        _ => Err(detail),
+    }
+}
+
+/// The bytes that a buffer needs for the lines of this file, whatever they come to.
+pub fn room(file: &[u8]) -> usize {
+    unsafe { library::dali_gear_room(file.as_ptr(), file.len()) }
+}
+
+/// Runs a session file, and gives the part of `out` that its lines fill.
+pub fn run<'a>(file: &[u8], out: &'a mut [u8]) -> Result<&'a [u8], NotRun> {
+    let mut detail = 0;
+    let code = unsafe {
+        library::dali_gear_run(file.as_ptr(), file.len(), out.as_mut_ptr(), out.len(), &mut detail)
+    };
+    match code {
+        DONE => Ok(&out[..detail]),
+        MALFORMED => Err(NotRun::Malformed(detail)),
+        _ => Err(NotRun::Short(detail)),
+    }
+}
+
+/// Performs one more step on the record that the file's steps leave. The file stays as it is: to keep the
+/// step, add it to the file.
+pub fn ask(file: &[u8], step: Step) -> Answer {
+    let mut detail = 0;
+    let Step(kind, a, b, c) = step;
+    let code = unsafe { library::dali_gear_ask(file.as_ptr(), file.len(), kind, a, b, c, &mut detail) };
+    match code {
+        DONE => Answer::Done,
+        VALUE => Answer::Value(detail as u16),
+        NOTHING => Answer::Nothing,
+        number => Answer::Refused(Refusal::of(number)),
+    }
+}
