@@ -27,6 +27,41 @@ pub enum Field {
 
 use Field::*;
 
+impl Field {
+    /// In the order of the file.
+    pub const ALL: [Field; 12] = [
+        TypeCount,
+        Types,
+        ProfileCount,
+        ShortAddress,
+        RandomAddress,
+        Flags,
+        Channels,
+        Coolest,
+        Warmest,
+        PhysicalMinimum,
+        StepCount,
+        Steps,
+    ];
+
+    pub fn name(self) -> &'static str {
+        match self {
+            TypeCount => "type count",
+            Types => "types",
+            ProfileCount => "profile count",
+            ShortAddress => "short address",
+            RandomAddress => "random address",
+            Flags => "flags",
+            Channels => "channels",
+            Coolest => "coolest",
+            Warmest => "warmest",
+            PhysicalMinimum => "physical minimum",
+            StepCount => "step count",
+            Steps => "steps",
+        }
+    }
+}
+
 #[derive(Clone, Copy, PartialEq, Eq, Debug)]
 pub enum Trouble {
     /// The file ends before the field does.
@@ -37,8 +72,11 @@ pub enum Trouble {
 
 #[derive(Clone, Copy, Debug)]
 pub struct Fault {
-    pub offset: usize,
     pub trouble: Trouble,
+    /// Where the field begins that is missing or out of range, or the surplus.
+    pub start: usize,
+    /// The byte that document 01 counts: behind `start` only where a part of the field is there.
+    pub offset: usize,
 }
 
 /// What a well formed file says.
@@ -79,7 +117,7 @@ impl<'a> Reading<'a> {
         let profile = self.profile(types)?;
         let steps = self.steps()?;
         if self.at < self.file.len() {
-            self.fault(self.at, Trouble::Surplus);
+            self.fault(Trouble::Surplus, self.at, self.at);
         }
         Some(Session { profile, steps })
     }
@@ -119,14 +157,14 @@ impl<'a> Reading<'a> {
         Some(bytes.chunks_exact(STEP_LEN).map(|step| Step(step.try_into().unwrap())).collect())
     }
 
-    fn fault(&mut self, offset: usize, trouble: Trouble) {
-        self.faults.push(Fault { offset, trouble });
+    fn fault(&mut self, trouble: Trouble, start: usize, offset: usize) {
+        self.faults.push(Fault { trouble, start, offset });
     }
 
     /// None where the file ends before the field does: then there is nothing to judge.
     fn bytes(&mut self, field: Field, length: usize) -> Option<&'a [u8]> {
         let Some(bytes) = self.file.get(self.at..self.at + length) else {
-            self.fault(self.file.len(), Trouble::Missing(field));
+            self.fault(Trouble::Missing(field), self.at, self.file.len());
             return None;
         };
         self.at += length;
@@ -139,7 +177,7 @@ impl<'a> Reading<'a> {
         let bytes = self.bytes(field, length)?;
         let number = bytes.iter().fold(0, |sum, byte| sum << 8 | u32::from(*byte));
         if !in_range(number) {
-            self.fault(start, Trouble::OutOfRange(field));
+            self.fault(Trouble::OutOfRange(field), start, start);
         }
         Some(number)
     }

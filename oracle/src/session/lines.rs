@@ -5,6 +5,7 @@ use super::step::Step;
 use crate::answer::{Answer, STEP_KIND_NOT_LISTED};
 use crate::gear::Gear;
 use crate::list::Run;
+use crate::profile::Profile;
 use std::fmt::Write;
 
 /// The lines for an input of any length.
@@ -17,7 +18,7 @@ pub fn lines(input: &[u8]) -> String {
 
 fn session_lines(session: &Session) -> String {
     let mut text = String::new();
-    let mut runner = Runner::new(session);
+    let mut runner = Runner::new(&session.profile);
     for (index, step) in session.steps.iter().enumerate() {
         let _ = writeln!(text, "{} {}", index + 1, answer_text(runner.perform(*step)));
     }
@@ -40,9 +41,9 @@ fn answer_text(answer: Answer) -> String {
 pub struct Runner(Run);
 
 impl Runner {
-    pub fn new(session: &Session) -> Self {
+    pub fn new(profile: &Profile) -> Self {
         let mut run = Run::new();
-        let built = run.step(&session.profile.call());
+        let built = run.step(&profile.call());
         assert_eq!(built, Ok(Answer::Done), "a well formed file has a profile that is accepted");
         Runner(run)
     }
