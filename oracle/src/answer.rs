@@ -16,6 +16,7 @@ pub enum Answer {
 /// Document 01, "Numbers given back on refusal".
 pub const PROFILE_NOT_ACCEPTED: Answer = Answer::Refused(1);
 pub const BYTE_NOT_IN_TABLE: Answer = Answer::Refused(3);
+pub const STEP_KIND_NOT_LISTED: Answer = Answer::Refused(3);
 pub const GROUP_ABOVE_15: Answer = Answer::Refused(4);
 
 impl Answer {

@@ -40,6 +40,19 @@ impl Chance {
         items[self.below(items.len())]
     }
 
+    /// One of the items, each by its weight.
+    pub fn weighted<T: Copy>(&mut self, items: &[(u32, T)]) -> T {
+        let total: u32 = items.iter().map(|(weight, _)| weight).sum();
+        let mut ticket = self.below(total as usize) as u32;
+        for (weight, item) in items {
+            if ticket < *weight {
+                return *item;
+            }
+            ticket -= weight;
+        }
+        unreachable!("the weights add up to the total")
+    }
+
     /// `first` to `last`, both included.
     pub fn between(&mut self, first: u16, last: u16) -> u16 {
         first + self.below(usize::from(last - first) + 1) as u16

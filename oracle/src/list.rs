@@ -23,6 +23,10 @@ pub enum Fault {
     Io(io::Error),
     /// The byte offset of the trouble, and what it is.
     List(u64, String),
+    /// The same in a stream of session files.
+    Stream(u64, String),
+    /// The offset at which a session file is malformed, where only a well formed one will do.
+    Session(usize),
 }
 
 impl From<io::Error> for Fault {

@@ -31,6 +31,9 @@ mod perform;
 mod place;
 mod profile;
 mod random;
+mod reach;
+mod session;
+mod sessions;
 mod show;
 mod tables;
 
@@ -39,8 +42,8 @@ use std::io::{self, BufReader, BufWriter, Read, Write};
 use std::process::ExitCode;
 
 const HELP: &str = "\
-oracle: the Rust gear, asked call by call. A list is read from standard input; the format of a list
-is in oracle/FORMAT.md.
+oracle: the Rust gear, asked call by call. A list or a session file is read from standard input; the
+format of a list is in oracle/FORMAT.md, that of a session file in document 01.
 
   oracle answer                  read a list, write it with the answers and digests of the Rust
   oracle show [--changed] [FIRST [LAST]]
@@ -52,6 +55,19 @@ is in oracle/FORMAT.md.
   oracle fixed --sections        write how many calls each of its sections has
   oracle random SEED CALLS       write a list of CALLS random calls
   oracle coverage [--summary]    read a list, count what it reaches; status 1 where something is missed
+
+  oracle session                 read a session file, write document 01's lines for it, as its program does:
+                                 a line for each step and the end, or only 'bad' and the offset (status 0)
+  oracle session --framed        read many session files, write the lines of each. Framed: before each file,
+                                 and before its lines, stands their length in 4 bytes, high byte first
+  oracle session --calls         read a session file, write its list of calls, for 'oracle show': call 1 is
+                                 the gear, call n + 1 is step n. Status 1 where the file is malformed
+  oracle sessions SEED COUNT     write COUNT session files made from the seed, framed. Nearly half are well
+                                 formed: 0 to 4,096 steps, whose bytes fit the record that they meet. The
+                                 others are cut off (short files after each byte in turn), have fields out
+                                 of range, bytes too many, two faults or more, or consist of any bytes
+  oracle reach [--summary]       read framed session files, count what they reach: faults, lengths, profiles,
+                                 steps, answers; status 1 where something is missed
 
 Status: 0 done, 1 failed (the reason is on standard error), 2 wrong use.
 ";
@@ -92,6 +108,8 @@ fn report(trouble: Trouble) -> ExitCode {
             return ExitCode::from(2);
         }
         Trouble::Fault(Fault::List(offset, what)) => eprintln!("oracle: bad list at byte {offset}: {what}"),
+        Trouble::Fault(Fault::Stream(offset, what)) => eprintln!("oracle: bad stream at byte {offset}: {what}"),
+        Trouble::Fault(Fault::Session(offset)) => eprintln!("oracle: the session file is malformed at byte {offset}"),
         Trouble::Fault(Fault::Io(error)) if error.kind() == io::ErrorKind::BrokenPipe => {}
         Trouble::Fault(Fault::Io(error)) => eprintln!("oracle: {error}"),
         Trouble::Missed => {}
@@ -110,8 +128,14 @@ fn run(words: &[&str]) -> Result<(), Trouble> {
         ["fixed"] => out.write_all(&fixed::fixed())?,
         ["fixed", "--sections"] => sections(&mut out)?,
         ["random", seed, calls] => random(number(seed)?, number(calls)?, &mut out)?,
-        ["coverage"] => coverage(input, &mut out, false)?,
-        ["coverage", "--summary"] => coverage(input, &mut out, true)?,
+        ["coverage"] => all_reached(coverage::coverage(input, &mut out, false)?, &mut out)?,
+        ["coverage", "--summary"] => all_reached(coverage::coverage(input, &mut out, true)?, &mut out)?,
+        ["session"] => session::commands::run_one(input, &mut out)?,
+        ["session", "--framed"] => session::commands::run_stream(input, &mut out)?,
+        ["session", "--calls"] => session::commands::write_calls(input, &mut out)?,
+        ["sessions", seed, count] => sessions::write_sessions(number(seed)?, number(count)?, &mut out)?,
+        ["reach"] => all_reached(reach::reach(input, &mut out, false)?, &mut out)?,
+        ["reach", "--summary"] => all_reached(reach::reach(input, &mut out, true)?, &mut out)?,
         [] => return Err(Trouble::Usage("no command".to_string())),
         _ => return Err(Trouble::Usage(format!("not a command: {}", words.join(" ")))),
     }
@@ -158,8 +182,7 @@ fn images(input: impl Read, out: &mut impl Write) -> Result<(), Fault> {
     Ok(())
 }
 
-fn coverage(input: impl Read, out: &mut impl Write, summary: bool) -> Result<(), Trouble> {
-    let complete = coverage::coverage(input, out, summary)?;
+fn all_reached(complete: bool, out: &mut impl Write) -> Result<(), Trouble> {
     out.flush()?;
     if complete {
         Ok(())

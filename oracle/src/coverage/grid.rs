@@ -1,6 +1,7 @@
 //! A table of counts over one axis or more, which knows which of its points nothing has reached.
 
-use std::fmt::Write;
+use std::fmt::Write as _;
+use std::io::{self, Write};
 
 pub type Axis = Vec<String>;
 
@@ -23,6 +24,22 @@ pub fn names<T: ToString>(names: &[T]) -> Axis {
 
 pub fn no_yes() -> Axis {
     names(&["no", "yes"])
+}
+
+/// Writes the tables and what nothing has reached. False where there is such a point.
+pub fn report(grids: &[&Grid], out: &mut impl Write, summary: bool) -> io::Result<bool> {
+    for grid in grids {
+        let text = if summary { grid.summary() } else { grid.table() };
+        out.write_all(text.as_bytes())?;
+    }
+    let complaints: Vec<String> = grids.iter().filter_map(|grid| grid.complaint()).collect();
+    for complaint in &complaints {
+        writeln!(out, "{complaint}")?;
+    }
+    if complaints.is_empty() {
+        writeln!(out, "everything is reached")?;
+    }
+    Ok(complaints.is_empty())
 }
 
 impl Grid {

@@ -40,6 +40,13 @@ impl Levels {
         }
     }
 
+    /// Where nothing is placed: no call leads to level 255.
+    pub fn of_calls_alone() -> Self {
+        let mut levels = Levels::new();
+        (0..LEVEL_BYTES.len()).for_each(|byte| levels.from.excuse(&[byte, PLACES.len() - 1]));
+        levels
+    }
+
     fn limit_write(&mut self, gear: &Gear, byte: u8, value: u8) {
         let level = match gear.level {
             0 => 0,

@@ -4,9 +4,9 @@ mod bus;
 mod colour;
 mod commands;
 mod gears;
-mod grid;
+pub mod grid;
 mod kinds;
-mod levels;
+pub mod levels;
 mod memory;
 mod record;
 
@@ -18,7 +18,7 @@ use grid::Grid;
 use std::io::{Read, Write};
 
 /// Watches a list go by and keeps tables of what it saw.
-trait Watch {
+pub trait Watch {
     fn before(&mut self, _gear: &Gear, _call: &Call) {}
     fn after(&mut self, _gear: &Gear, _call: &Call, _answer: Answer) {}
     fn grids(&self) -> Vec<&Grid>;
@@ -50,21 +50,6 @@ pub fn coverage(input: impl Read, out: &mut impl Write, summary: bool) -> Result
         watches.iter_mut().for_each(|watch| watch.after(&run.gear, &entry.call, answer));
     }
     writeln!(out, "{} calls", run.number)?;
-    report(&watches, out, summary)
-}
-
-fn report(watches: &[Box<dyn Watch>], out: &mut impl Write, summary: bool) -> Result<bool, Fault> {
-    let grids = || watches.iter().flat_map(|watch| watch.grids());
-    for grid in grids() {
-        let text = if summary { grid.summary() } else { grid.table() };
-        out.write_all(text.as_bytes())?;
-    }
-    let complaints: Vec<String> = grids().filter_map(Grid::complaint).collect();
-    for complaint in &complaints {
-        writeln!(out, "{complaint}")?;
-    }
-    if complaints.is_empty() {
-        writeln!(out, "everything is reached")?;
-    }
-    Ok(complaints.is_empty())
+    let grids: Vec<&Grid> = watches.iter().flat_map(|watch| watch.grids()).collect();
+    Ok(grid::report(&grids, out, summary)?)
 }

@@ -303,7 +303,7 @@ fn power_cycle(p: &mut Plan) {
 }
 
 fn new_gear(p: &mut Plan) {
-    let profile = if p.chance.one_in(6) { profiles::switching(p.chance) } else { profiles::accepted(p.chance) };
+    let profile = profiles::for_new_gear(p.chance);
     p.add(profile.call());
 }
 

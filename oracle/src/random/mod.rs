@@ -2,7 +2,8 @@
 
 mod acts;
 mod placings;
-mod profiles;
+pub mod profiles;
+mod session_acts;
 mod values;
 
 use crate::call::Call;
@@ -42,6 +43,11 @@ impl Generator {
         Generator::with(seed, acts::ONGOING.to_vec())
     }
 
+    /// For the steps of a session, which may be few: more of what shows something by itself.
+    pub fn for_sessions(seed: u64) -> Self {
+        Generator::with(seed, [acts::ONGOING, acts::RENEWING, session_acts::SHOWING].concat())
+    }
+
     fn with(seed: u64, acts: Vec<(u32, Act)>) -> Self {
         Generator { chance: Chance::new(seed), acts, planned: VecDeque::new() }
     }
@@ -56,20 +62,8 @@ impl Generator {
             if let Some(call) = self.planned.pop_front() {
                 return call;
             }
-            let act = self.draw();
+            let act = self.chance.weighted(&self.acts);
             act(&mut Plan { chance: &mut self.chance, gear, calls: &mut self.planned });
         }
-    }
-
-    fn draw(&mut self) -> Act {
-        let total: u32 = self.acts.iter().map(|(weight, _)| weight).sum();
-        let mut ticket = self.chance.below(total as usize) as u32;
-        for (weight, act) in &self.acts {
-            if ticket < *weight {
-                return *act;
-            }
-            ticket -= weight;
-        }
-        unreachable!("the weights add up to the total")
     }
 }

@@ -46,6 +46,15 @@ fn tc_limits(chance: &mut Chance) -> (u16, u16) {
     }
 }
 
+/// Accepted, and more often of type 7 than by chance alone.
+pub fn for_new_gear(chance: &mut Chance) -> Profile {
+    if chance.one_in(6) {
+        switching(chance)
+    } else {
+        accepted(chance)
+    }
+}
+
 /// An accepted profile with one thing spoilt.
 pub fn refused(chance: &mut Chance) -> Profile {
     let mut profile = accepted(chance);

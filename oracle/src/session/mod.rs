@@ -1,0 +1,7 @@
+//! The session file and its runner, written from document 01, "Session file and runner".
+
+pub mod commands;
+pub mod file;
+pub mod frames;
+pub mod lines;
+pub mod step;
