@@ -1,0 +1,9 @@
+pub mod Outcome
+pub mod OutcomesBank
+pub mod OutcomesCalls
+pub mod OutcomesColour
+pub mod OutcomesGear
+pub mod OutcomesLevel
+pub mod OutcomesNumbers
+pub mod OutcomesQuery
+pub mod OutcomesRunner
