@@ -1,3 +1,4 @@
+pub mod Bytes
 pub mod Outcome
 pub mod OutcomesBank
 pub mod OutcomesCalls
@@ -7,3 +8,4 @@ pub mod OutcomesLevel
 pub mod OutcomesNumbers
 pub mod OutcomesQuery
 pub mod OutcomesRunner
+pub mod Promises

@@ -21,7 +21,7 @@ pub data Call : Type 0 where
   StandardWrite : (byte dtr0 : ℕ) → Call
   ArcPower : (level : ℕ) → Call
   Query : (byte : ℕ) → Call
-  Matches : (address : Address) → Call
+  Matches : (whom : Address) → Call
   TcStep : (warmer : Bool) → Call
   XyStep : (y up : Bool) → Call
   StoreTcLimit : (value selector : ℕ) → Call
@@ -68,7 +68,7 @@ unfoldable pub perform : Call → Gear → Outcome
 perform (StandardWrite byte dtr0) g = applyStandardWrite g byte dtr0
 perform (ArcPower level) g = directArcPower g level
 perform (Query byte) g = gearQueryReply g byte
-perform (Matches address) g = told g (matchesCall g address)
+perform (Matches whom) g = told g (matchesCall g whom)
 perform (TcStep warmer) g = tcStepCall g warmer
 perform (XyStep y up) g = xyStepCall g y up
 perform (StoreTcLimit value selector) g = storeTcLimitCall g value selector
@@ -106,3 +106,4 @@ perform (SetEnabled enabled) g = setEnabledCall g enabled
 perform (SetLampFailure failure) g = setLampFailureCall g failure
 perform (SetLampStarting starting) g = setLampStartingCall g starting
 perform (SetFaults faults) g = setFaultsCall g faults
+

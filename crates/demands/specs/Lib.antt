@@ -1,2 +1,4 @@
 pub mod Calls
 pub mod Outcome
+pub mod Promises
+pub mod Refusals
