@@ -1,4 +1,6 @@
+pub mod Answers
 pub mod Bytes
+pub mod Exactly
 pub mod Outcome
 pub mod OutcomesBank
 pub mod OutcomesCalls

@@ -106,4 +106,3 @@ perform (SetEnabled enabled) g = setEnabledCall g enabled
 perform (SetLampFailure failure) g = setLampFailureCall g failure
 perform (SetLampStarting starting) g = setLampStartingCall g starting
 perform (SetFaults faults) g = setFaultsCall g faults
-
