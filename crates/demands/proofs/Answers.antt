@@ -1,6 +1,6 @@
 -- Which answers are no refusals: those that the rules give where nothing is refused.
-use Prim.Native.Nat.{ℕ, _≤_, _<_, _/_, _%_}
-use mathlib.Core.Path.{_≡_, refl, sym, _∙_, ap}
+use Prim.Native.Nat.{ℕ, _≤_, _/_, _%_}
+use mathlib.Core.Path.{_≡_, refl, ap}
 use mathlib.Core.Bool.{Bool, true, false}
 use mathlib.Core.Option.{none, some}
 use lib.Dec.{leb, ltb, eqb}
@@ -10,7 +10,7 @@ use Rattle.demands.specs.Refusals.{listed, writeBytes, queryBytes, group
 use Rattle.demands.proofs.Bytes.{write-listed, write-high, command-high, query-listed}
 use Rattle.bank.specs.declared.memory.Location.{Location}
 use Rattle.bank.specs.declared.memory.Location.the-variants.{Byte as Found, Nothing as Unread}
-use Rattle.calls.specs.Address.{addressed, beyond, judged, matching}
+use Rattle.calls.specs.Address.{beyond, judged, matching}
 use Rattle.calls.specs.Colours.{valueAnswer}
 use Rattle.calls.specs.declared.address.Address.{Address}
 use Rattle.calls.specs.declared.address.Address.the-variants.{Short, Group, Broadcast, Unaddressed}
@@ -19,11 +19,9 @@ use Rattle.calls.specs.Pairing.{hear, heardAnswer, waits}
 use Rattle.colour.specs.declared.value.ColourValue.{ColourValue}
 use Rattle.colour.specs.declared.value.ColourValue.the-variants.{Value as Shown, Nothing as Hidden}
 use Rattle.gear.specs.Answer.{flag, refused}
-use Rattle.gear.specs.Command.{commandOf}
 use Rattle.gear.specs.declared.answer.Answer.{Answer}
-use Rattle.gear.specs.declared.answer.Answer.the-variants.{Done, Value, Nothing, Refused}
-use Rattle.gear.specs.declared.answer.Outcome.{Outcome}
-use Rattle.gear.specs.declared.answer.Refusal.the-variants.{Unfit, Byte, Group as GroupAbove}
+use Rattle.gear.specs.declared.answer.Answer.the-variants.{Done, Value, Nothing}
+use Rattle.gear.specs.declared.answer.Refusal.the-variants.{Byte}
 use Rattle.gear.specs.declared.marks.Walk.{Walk}
 use Rattle.gear.specs.declared.marks.Walk.the-variants.{Off, At}
 use Rattle.gear.specs.declared.record.Gear.{Gear}
@@ -33,9 +31,7 @@ use Rattle.gear.specs.Write.{applyStandardWrite, write}
 use Rattle.gear.proofs.Refusals.{isWrite, write-refusals}
 use Rattle.numbers.specs.Numbers.{pick}
 use Rattle.numbers.proofs.Logic.{by-cases}
-use Rattle.query.specs.Reply.{gearFailure, identityReply, isQuery, query, reply, settingReply, statusReply, yes}
-use Rattle.query.specs.Status.{missing}
-use Rattle.query.specs.Lamp.{lampOn}
+use Rattle.query.specs.Reply.{identityReply, isQuery, query, reply, settingReply, statusReply, yes}
 use Rattle.query.specs.Walk.{deviceType, next, nextAt, nextDeviceType}
 
 data Plain : Answer → Type 0 where

@@ -1,9 +1,9 @@
 -- Document 01's ranges hold exactly the bytes that the rules know as writes and as queries.
-use Prim.Native.Nat.{ℕ, _≤_, _<_, _/_, _%_}
+use Prim.Native.Nat.{ℕ, _≤_, _<_, _/_}
 use mathlib.Core.Path.{_≡_, refl, sym, _∙_}
 use mathlib.Core.Bool.{Bool, true, false, not}
 use mathlib.Core.List.{List, [], _∷_}
-use lib.Dec.{T, leb, ltb, eqb, lit<, lit≤}
+use lib.Dec.{T, leb, ltb, lit<}
 use lib.ListN.{replicate, length-replicate}
 use native.Mathlib.Nat.{le-div-iff-mul-le}
 use native.Mathlib.Omega.{arith}
@@ -12,7 +12,7 @@ use Rattle.demands.specs.Refusals.{listed, writeBytes, queryBytes}
 use Rattle.gear.specs.Command.{commandOf}
 use Rattle.gear.specs.declared.command.StandardCommand.the-variants.{Unknown}
 use Rattle.gear.proofs.Refusals.{isWrite}
-use Rattle.numbers.specs.Numbers.{both, pick}
+use Rattle.numbers.specs.Numbers.{both}
 use Rattle.numbers.proofs.Logic.{by-cases, both-left, both-right}
 use Rattle.numbers.proofs.Table.{at}
 use Rattle.query.specs.Reply.{isQuery, isStatusQuery, isSettingQuery}

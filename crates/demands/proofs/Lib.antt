@@ -1,6 +1,10 @@
 pub mod Answers
+pub mod Built
 pub mod Bytes
 pub mod Exactly
+pub mod Given
+pub mod Kept
+pub mod Named
 pub mod Outcome
 pub mod OutcomesBank
 pub mod OutcomesCalls
@@ -11,3 +15,4 @@ pub mod OutcomesNumbers
 pub mod OutcomesQuery
 pub mod OutcomesRunner
 pub mod Promises
+pub mod Steps

@@ -1,9 +1,9 @@
 -- One outcome of every public function of bank, by its own promise (`Post`, the function's `ensures`).
+use Rattle.demands.specs.Outcome.{OneOutcome}
+use Rattle.demands.proofs.Outcome.{determined}
 use Rattle.bank.proofs.build
 use Rattle.bank.proofs.memory
 use Rattle.bank.proofs.setters
-use Rattle.demands.specs.Outcome.{OneOutcome}
-use Rattle.demands.proofs.Outcome.{determined}
 
 pub «build::Banks::build» : OneOutcome build.Banks.build.Reads.Post
 «build::Banks::build» κs args r r′ e e′ = determined

@@ -1,4 +1,6 @@
 -- One outcome of every public function of calls, by its own promise (`Post`, the function's `ensures`).
+use Rattle.demands.specs.Outcome.{OneOutcome}
+use Rattle.demands.proofs.Outcome.{determined}
 use Rattle.calls.proofs.address
 use Rattle.calls.proofs.colours
 use Rattle.calls.proofs.memory
@@ -6,8 +8,6 @@ use Rattle.calls.proofs.pairing
 use Rattle.calls.proofs.power
 use Rattle.calls.proofs.reads
 use Rattle.calls.proofs.setters
-use Rattle.demands.specs.Outcome.{OneOutcome}
-use Rattle.demands.proofs.Outcome.{determined}
 
 pub «address::matches» : OneOutcome address.matches.Reads.Post
 «address::matches» κs args r r′ e e′ = determined

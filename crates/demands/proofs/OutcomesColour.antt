@@ -1,4 +1,6 @@
 -- One outcome of every public function of colour, by its own promise (`Post`, the function's `ensures`).
+use Rattle.demands.specs.Outcome.{OneOutcome}
+use Rattle.demands.proofs.Outcome.{determined}
 use Rattle.colour.proofs.activation
 use Rattle.colour.proofs.record
 use Rattle.colour.proofs.report
@@ -6,8 +8,6 @@ use Rattle.colour.proofs.setting
 use Rattle.colour.proofs.staging
 use Rattle.colour.proofs.steps
 use Rattle.colour.proofs.value
-use Rattle.demands.specs.Outcome.{OneOutcome}
-use Rattle.demands.proofs.Outcome.{determined}
 
 pub «activation::activate_pending_color» : OneOutcome activation.activate_pending_color.Reads.Post
 «activation::activate_pending_color» κs args r r′ e e′ = determined

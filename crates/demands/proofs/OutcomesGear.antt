@@ -1,4 +1,6 @@
 -- One outcome of every public function of gear, by its own promise (`Post`, the function's `ensures`).
+use Rattle.demands.specs.Outcome.{OneOutcome}
+use Rattle.demands.proofs.Outcome.{determined}
 use Rattle.gear.proofs.answer
 use Rattle.gear.proofs.marks
 use Rattle.gear.proofs.profile
@@ -6,8 +8,6 @@ use Rattle.gear.proofs.record
 use Rattle.gear.proofs.scene
 use Rattle.gear.proofs.serve
 use Rattle.gear.proofs.write
-use Rattle.demands.specs.Outcome.{OneOutcome}
-use Rattle.demands.proofs.Outcome.{determined}
 
 pub «answer::Refusal::number» : OneOutcome answer.Refusal.number.Reads.Post
 «answer::Refusal::number» κs args r r′ e e′ = determined

@@ -1,8 +1,8 @@
 -- One outcome of every public function of level, by its own promise (`Post`, the function's `ensures`).
-use Rattle.level.proofs.arc
-use Rattle.level.proofs.levels
 use Rattle.demands.specs.Outcome.{OneOutcome}
 use Rattle.demands.proofs.Outcome.{determined}
+use Rattle.level.proofs.arc
+use Rattle.level.proofs.levels
 
 pub «arc::apply_arc» : OneOutcome arc.apply_arc.Reads.Post
 «arc::apply_arc» κs args r r′ e e′ = determined

@@ -1,8 +1,8 @@
 -- One outcome of every public function of numbers, by its own promise (`Post`, the function's `ensures`).
-use Rattle.numbers.proofs.byte
-use Rattle.numbers.proofs.word
 use Rattle.demands.specs.Outcome.{OneOutcome}
 use Rattle.demands.proofs.Outcome.{determined}
+use Rattle.numbers.proofs.byte
+use Rattle.numbers.proofs.word
 
 pub «byte::clamp» : OneOutcome byte.clamp.Reads.Post
 «byte::clamp» κs args r r′ e e′ = determined

@@ -1,10 +1,10 @@
 -- One outcome of every public function of query, by its own promise (`Post`, the function's `ensures`).
+use Rattle.demands.specs.Outcome.{OneOutcome}
+use Rattle.demands.proofs.Outcome.{determined}
 use Rattle.query.proofs.bits
 use Rattle.query.proofs.lamp
 use Rattle.query.proofs.reply
 use Rattle.query.proofs.status
-use Rattle.demands.specs.Outcome.{OneOutcome}
-use Rattle.demands.proofs.Outcome.{determined}
 
 pub «bits::eight» : OneOutcome bits.eight.Reads.Post
 «bits::eight» κs args r r′ e e′ = determined

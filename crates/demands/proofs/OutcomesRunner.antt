@@ -1,11 +1,11 @@
 -- One outcome of every public function of runner, by its own promise (`Post`, the function's `ensures`).
 -- A section is a part of the lent file, a reference: its bytes (`now`) are the outcome, since a promise can't say which of several places
 -- with the same bytes is shown. `run` and `report` write to a lent buffer too: what it holds at exit is an outcome besides.
+use Rattle.demands.specs.Outcome.{OneOutcome, OneSeen}
+use Rattle.demands.proofs.Outcome.{determined}
 use Rattle.runner.proofs.file
 use Rattle.runner.proofs.run
 use Rattle.runner.proofs.step
-use Rattle.demands.specs.Outcome.{OneOutcome, OneSeen}
-use Rattle.demands.proofs.Outcome.{determined}
 
 pub «file::check» : OneOutcome file.check.Reads.Post
 «file::check» κs args r r′ e e′ = determined

@@ -1,5 +1,5 @@
 -- Every public call that takes a record, and what each does: the rule of its call, to which the call is proved equal.
-use Prim.Native.Nat.{ℕ, _<_}
+use Prim.Native.Nat.{ℕ}
 use mathlib.Core.Bool.{Bool}
 use Rattle.calls.specs.Address.{matchesCall}
 use Rattle.calls.specs.Colours.{activateCall, automaticCall, colorValueCall, colourStatusCall, controlCall, copyReportCall, featureByteCall, featuresCall, setFeaturesCall, stageCall, storeTcLimitCall, tcStepCall, xyStepCall}

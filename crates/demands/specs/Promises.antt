@@ -1,5 +1,7 @@
 -- What the Rattle function of each call promises, as its own `ensures` says it: o is an outcome that the call may have.
 use mathlib.Core.Path.{_≡_}
+use Rattle.demands.specs.Calls.{Call}
+use Rattle.demands.specs.Calls.Call.{StandardWrite, ArcPower, Query, Matches, TcStep, XyStep, StoreTcLimit, Stage, Activate, CopyReport, SetFeatures, ColorValue, ColourStatus, Features, ControlByte, FeatureByte, Automatic, ReadMemory, WriteMemory, AdvancesDtr0, ImplementsBank, SetLockByte, SetLocation, SetGearUnit, SetLastOffset, ClearNumber, Hear, HoldsFrame, HearElsewhere, PowerCycle, StatusByte, LampOn, FailureBits, ThermalShutDown, LampFailure, ActualLevel, IsType, SetEnabled, SetLampFailure, SetLampStarting, SetFaults}
 use Rattle.calls.proofs.address
 use Rattle.calls.proofs.colours
 use Rattle.calls.proofs.memory
@@ -9,8 +11,6 @@ use Rattle.calls.proofs.reads
 use Rattle.calls.proofs.setters
 use Rattle.gear.proofs.write
 use Rattle.query.proofs.reply
-use Rattle.demands.specs.Calls.{Call}
-use Rattle.demands.specs.Calls.Call.{StandardWrite, ArcPower, Query, Matches, TcStep, XyStep, StoreTcLimit, Stage, Activate, CopyReport, SetFeatures, ColorValue, ColourStatus, Features, ControlByte, FeatureByte, Automatic, ReadMemory, WriteMemory, AdvancesDtr0, ImplementsBank, SetLockByte, SetLocation, SetGearUnit, SetLastOffset, ClearNumber, Hear, HoldsFrame, HearElsewhere, PowerCycle, StatusByte, LampOn, FailureBits, ThermalShutDown, LampFailure, ActualLevel, IsType, SetEnabled, SetLampFailure, SetLampStarting, SetFaults}
 use Rattle.gear.specs.declared.answer.Outcome.{Outcome}
 use Rattle.gear.specs.declared.record.Gear.{Gear}
 

@@ -5,7 +5,7 @@ use mathlib.Core.List.{List, [], _∷_}
 use mathlib.Core.Option.{Option, none, some}
 use mathlib.Core.Path.{_≡_}
 use lib.Dec.{leb, ltb}
-use Rattle.demands.specs.Calls.{Call, perform}
+use Rattle.demands.specs.Calls.{Call}
 use Rattle.demands.specs.Calls.Call.{StandardWrite, ArcPower, Query, Matches, TcStep, XyStep, StoreTcLimit, Stage, Activate, CopyReport, SetFeatures, ColorValue, ColourStatus, Features, ControlByte, FeatureByte, Automatic, ReadMemory, WriteMemory, AdvancesDtr0, ImplementsBank, SetLockByte, SetLocation, SetGearUnit, SetLastOffset, ClearNumber, Hear, HoldsFrame, HearElsewhere, PowerCycle, StatusByte, LampOn, FailureBits, ThermalShutDown, LampFailure, ActualLevel, IsType, SetEnabled, SetLampFailure, SetLampStarting, SetFaults}
 use Rattle.calls.specs.declared.address.Address.{Address}
 use Rattle.calls.specs.declared.address.Address.the-variants.{Short, Group, Broadcast, Unaddressed}
@@ -101,8 +101,3 @@ isRefusal (Refused r) = true
 abbrev pub Judged : Option Refusal → Gear → Outcome → Type 0
 Judged none g o = isRefusal (o .answer) ≡ false
 Judged (some r) g o = o ≡ refused g r
-
--- a refusal is given exactly where a test of call and record says so, and then the record comes back as it was
-pub record GivenExactly (r : Refusal) (when : Call → Gear → Bool) : Type 0 where
-  pub given : (c : Call) (g : Gear) → when c g ≡ true → perform c g ≡ refused g r
-  pub only : (c : Call) (g : Gear) → perform c g .answer ≡ Refused r → when c g ≡ true
