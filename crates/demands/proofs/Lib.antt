@@ -15,4 +15,5 @@ pub mod OutcomesNumbers
 pub mod OutcomesQuery
 pub mod OutcomesRunner
 pub mod Promises
+pub mod Readings
 pub mod Steps

@@ -3,5 +3,7 @@ pub mod Given
 pub mod Kept
 pub mod Outcome
 pub mod Promises
+pub mod Readings
 pub mod Refusals
 pub mod Steps
+pub mod Table
