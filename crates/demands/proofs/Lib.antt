@@ -1,6 +1,7 @@
 pub mod Answers
 pub mod Built
 pub mod Bytes
+pub mod Demands
 pub mod Exactly
 pub mod Given
 pub mod Kept

@@ -1,5 +1,5 @@
 -- What a call promises is what its rule says.
-use mathlib.Core.Path.{_≡_}
+use mathlib.Core.Path.{_≡_, refl}
 use Rattle.demands.specs.Calls.{Call, told, perform}
 use Rattle.demands.specs.Calls.Call.{StandardWrite, ArcPower, Query, Matches, TcStep, XyStep, StoreTcLimit, Stage, Activate, CopyReport, SetFeatures, ColorValue, ColourStatus, Features, ControlByte, FeatureByte, Automatic, ReadMemory, WriteMemory, AdvancesDtr0, ImplementsBank, SetLockByte, SetLocation, SetGearUnit, SetLastOffset, ClearNumber, Hear, HoldsFrame, HearElsewhere, PowerCycle, StatusByte, LampOn, FailureBits, ThermalShutDown, LampFailure, ActualLevel, IsType, SetEnabled, SetLampFailure, SetLampStarting, SetFaults}
 use Rattle.demands.specs.Promises.{Promised}
@@ -53,3 +53,48 @@ promised-rule (SetEnabled enabled) g o p = p
 promised-rule (SetLampFailure failure) g o p = p
 promised-rule (SetLampStarting starting) g o p = p
 promised-rule (SetFaults faults) g o p = p
+
+-- and the rule's outcome is one that the call may have
+pub rule-promised : (c : Call) (g : Gear) → Promised c g (perform c g)
+unfolding perform
+rule-promised (StandardWrite byte dtr0) g = refl
+rule-promised (ArcPower level) g = refl
+rule-promised (Query byte) g = refl
+rule-promised (Matches whom) g = (refl, refl)
+rule-promised (TcStep warmer) g = refl
+rule-promised (XyStep y up) g = refl
+rule-promised (StoreTcLimit value selector) g = refl
+rule-promised (Stage setting) g = refl
+rule-promised Activate g = refl
+rule-promised CopyReport g = refl
+rule-promised (SetFeatures features) g = refl
+rule-promised (ColorValue id) g = (refl, refl)
+rule-promised ColourStatus g = (refl, refl)
+rule-promised Features g = (refl, refl)
+rule-promised ControlByte g = (refl, refl)
+rule-promised FeatureByte g = (refl, refl)
+rule-promised Automatic g = (refl, refl)
+rule-promised (ReadMemory bank offset) g = (refl, refl)
+rule-promised (WriteMemory bank offset value) g = refl
+rule-promised (AdvancesDtr0 bank offset) g = (refl, refl)
+rule-promised (ImplementsBank bank) g = (refl, refl)
+rule-promised (SetLockByte value) g = refl
+rule-promised (SetLocation offset value) g = refl
+rule-promised (SetGearUnit units index) g = refl
+rule-promised (SetLastOffset last) g = refl
+rule-promised ClearNumber g = refl
+rule-promised (Hear frame repeats) g = refl
+rule-promised (HoldsFrame frame) g = (refl, refl)
+rule-promised HearElsewhere g = refl
+rule-promised PowerCycle g = refl
+rule-promised StatusByte g = (refl, refl)
+rule-promised LampOn g = (refl, refl)
+rule-promised FailureBits g = (refl, refl)
+rule-promised ThermalShutDown g = (refl, refl)
+rule-promised LampFailure g = (refl, refl)
+rule-promised ActualLevel g = (refl, refl)
+rule-promised (IsType code) g = (refl, refl)
+rule-promised (SetEnabled enabled) g = refl
+rule-promised (SetLampFailure failure) g = refl
+rule-promised (SetLampStarting starting) g = refl
+rule-promised (SetFaults faults) g = refl

@@ -1,18 +1,21 @@
 -- Every step of a session is one of the calls, or has a kind that document 01 does not list.
 use Prim.Native.Nat.{ℕ, zero, suc, _≤_, _<_}
-use mathlib.Core.Path.{_≡_, refl}
+use mathlib.Core.Path.{_≡_, refl, _∙_}
 use mathlib.Core.Bool.{false}
 use mathlib.Core.List.{List, [], _∷_}
-use mathlib.Core.Option.{none}
+use mathlib.Core.Option.{Option, none, some}
 use lib.Dec.{eqb}
 use lib.ListN.{length}
 use native.Mathlib.Nat.{le-of-suc-le-suc, not-suc-le-zero}
 use native.Mathlib.Omega.{arith}
 use borrow.Author.Tests.{eqb-true, eqb-false, ne-eqb}
 use Rattle.demands.specs.Calls.{Call, perform}
-use Rattle.demands.specs.Steps.{kinds, entry, Stepped}
+use Rattle.demands.specs.Refusals.{Judged}
+use Rattle.demands.specs.Steps.{kinds, entry, Stepped, stepRefusal}
+use Rattle.demands.proofs.Exactly.{exactly}
 use Rattle.gear.specs.Answer.{refused}
 use Rattle.gear.specs.declared.answer.Refusal.the-variants.{Unfit, Byte}
+use Rattle.gear.specs.declared.answer.Outcome.{Outcome}
 use Rattle.gear.specs.declared.record.Gear.{Gear}
 use Rattle.gear.specs.Record.{fitb}
 use Rattle.gear.specs.Serve.{serve}
@@ -100,3 +103,12 @@ stepped g kind a b c =
 -- the kinds that are listed are 0 to 12
 pub unlisted-exactly : (kind a b c : ℕ) → (entry (kinds a b c) kind ≡ none → 12 < kind) × (12 < kind → entry (kinds a b c) kind ≡ none)
 unlisted-exactly kind a b c = (entry-within (kinds a b c) kind, entry-beyond (kinds a b c) kind)
+
+-- ## Refusals of steps
+
+judged-as : (t : Option Call) (g : Gear) (o : Outcome) → Stepped t g o → Judged (stepRefusal t g) g o
+judged-as none g o e = by-cases (fitb g) (λ fit. rw fit (e ∙ rw fit)) (λ unfit. rw unfit (e ∙ rw unfit))
+judged-as (some call) g o e = rw e (exactly call g)
+
+pub step-exactly : (g : Gear) (kind a b c : ℕ) → Judged (stepRefusal (entry (kinds a b c) kind) g) g (step g kind a b c)
+step-exactly g kind a b c = judged-as (entry (kinds a b c) kind) g (step g kind a b c) (stepped g kind a b c)

@@ -7,8 +7,10 @@ use mathlib.Core.Option.{Option, none, some}
 use lib.Dec.{eqb}
 use Rattle.demands.specs.Calls.{Call, perform}
 use Rattle.demands.specs.Calls.Call.{ArcPower, StandardWrite, Query, ReadMemory, WriteMemory, ColorValue, StoreTcLimit, TcStep, Stage, Activate, PowerCycle, CopyReport, SetFeatures}
+use Rattle.demands.specs.Refusals.{refusalOf}
 use Rattle.gear.specs.Answer.{refused}
 use Rattle.gear.specs.declared.answer.Outcome.{Outcome}
+use Rattle.gear.specs.declared.answer.Refusal.{Refusal}
 use Rattle.gear.specs.declared.answer.Refusal.the-variants.{Unfit, Byte}
 use Rattle.gear.specs.declared.record.Gear.{Gear}
 use Rattle.gear.specs.Record.{fitb}
@@ -42,3 +44,8 @@ entry (call ∷ calls) (suc n) = entry calls n
 abbrev pub Stepped : Option Call → Gear → Outcome → Type 0
 Stepped none g o = o ≡ pick (fitb g) (refused g Byte) (refused g Unfit)
 Stepped (some call) g o = o ≡ perform call g
+
+-- document 01's table for a step: its call's refusal, or 3 for a kind not listed, and 2 before that
+abbrev pub stepRefusal : Option Call → Gear → Option Refusal
+stepRefusal none g = pick (fitb g) (some Byte) (some Unfit)
+stepRefusal (some call) g = refusalOf call g
