@@ -1,0 +1,154 @@
+-- Which answers are no refusals: those that the rules give where nothing is refused.
+use Prim.Native.Nat.{ℕ, _≤_, _/_, _%_}
+use mathlib.Core.Path.{_≡_, refl, ap}
+use mathlib.Core.Bool.{Bool, true, false}
+use mathlib.Core.Option.{none, some}
+use lib.Dec.{leb, ltb, eqb}
+use borrow.Author.Tests.{eqb-true, ltb-true, ltb-false}
+use Rattle.demands.specs.Calls.{told}
+use Rattle.demands.specs.Refusals.{listed, writeBytes, queryBytes, groupRefusal, isRefusal, Judged}
+use Rattle.demands.proofs.Bytes.{write-listed, write-high, command-high, query-listed}
+use Rattle.bank.specs.declared.memory.Location.{Location}
+use Rattle.bank.specs.declared.memory.Location.the-variants.{Byte as Found, Nothing as Unread}
+use Rattle.calls.specs.Address.{beyond, judged, matching}
+use Rattle.calls.specs.Colours.{valueAnswer}
+use Rattle.calls.specs.declared.address.Address.{Address}
+use Rattle.calls.specs.declared.address.Address.the-variants.{Short, Group, Broadcast, Unaddressed}
+use Rattle.calls.specs.Memory.{locationAnswer}
+use Rattle.calls.specs.Pairing.{hear, heardAnswer, waits}
+use Rattle.colour.specs.declared.value.ColourValue.{ColourValue}
+use Rattle.colour.specs.declared.value.ColourValue.the-variants.{Value as Shown, Nothing as Hidden}
+use Rattle.gear.specs.Answer.{flag, refused}
+use Rattle.gear.specs.declared.answer.Answer.{Answer}
+use Rattle.gear.specs.declared.answer.Answer.the-variants.{Done, Value, Nothing}
+use Rattle.gear.specs.declared.answer.Refusal.the-variants.{Byte}
+use Rattle.gear.specs.declared.marks.Walk.{Walk}
+use Rattle.gear.specs.declared.marks.Walk.the-variants.{Off, At}
+use Rattle.gear.specs.declared.record.Gear.{Gear}
+use Rattle.gear.specs.Record.{fitb}
+use Rattle.gear.specs.Serve.{serve}
+use Rattle.gear.specs.Write.{applyStandardWrite, write}
+use Rattle.gear.proofs.Refusals.{isWrite, write-refusals}
+use Rattle.numbers.specs.Numbers.{pick}
+use Rattle.numbers.proofs.Logic.{by-cases}
+use Rattle.query.specs.Reply.{identityReply, isQuery, query, reply, settingReply, statusReply, yes}
+use Rattle.query.specs.Walk.{deviceType, next, nextAt, nextDeviceType}
+
+data Plain : Answer → Type 0 where
+  done : Plain Done
+  value : {n : ℕ} → Plain (Value n)
+  nothing : Plain Nothing
+
+plain : {a : Answer} → Plain a → isRefusal a ≡ false
+plain done = refl
+plain value = refl
+plain nothing = refl
+
+-- ## Parts of answers
+
+either : (t : Bool) {a b : Answer} → Plain a → Plain b → Plain (pick t a b)
+either true p q = p
+either false p q = q
+
+pub flag-plain : (t : Bool) → isRefusal (flag t) ≡ false
+unfolding flag
+flag-plain t = refl
+
+pub value-plain : (v : ColourValue) → isRefusal (valueAnswer v) ≡ false
+unfolding valueAnswer
+value-plain (Shown n) = refl
+value-plain Hidden = refl
+
+pub location-plain : (l : Location) → isRefusal (locationAnswer l) ≡ false
+unfolding locationAnswer
+location-plain (Found b) = refl
+location-plain Unread = refl
+
+pub hear-plain : (g : Gear) (frame : ℕ) (repeats : Bool) → isRefusal (hear g frame repeats .answer) ≡ false
+unfolding hear heardAnswer
+hear-plain g frame repeats = by-cases (waits (g .marks .pair) frame) (λ e. rw e) (λ e. rw e)
+
+-- ## Queries
+
+yes-plain : (t : Bool) → Plain (yes t)
+unfolding yes
+yes-plain t = either t value nothing
+
+status-plain : (g : Gear) (low : ℕ) → Plain (statusReply g low)
+unfolding statusReply
+status-plain g low =
+    either (eqb low 0) value
+    (either (eqb low 1) value
+    (either (eqb low 2) (yes-plain _)
+    (either (eqb low 3) (yes-plain _)
+    (either (eqb low 4) (yes-plain _)
+    (either (eqb low 5) (yes-plain _)
+    (either (eqb low 6) (yes-plain _)
+    (either (eqb low 7) value
+    (either (eqb low 10) value
+    (either (eqb low 11) (yes-plain _) (either (eqb low 14) value (either (eqb low 15) value nothing)))))))))))
+
+setting-plain : (g : Gear) (low : ℕ) → Plain (settingReply g low)
+unfolding settingReply
+setting-plain g low =
+    either (eqb low 0) value
+    (either (eqb low 1) value
+    (either (eqb low 2) value
+    (either (eqb low 3) value
+    (either (eqb low 4) value
+    (either (eqb low 5) value (either (eqb low 8) value (either (eqb low 10) (yes-plain _) nothing)))))))
+
+identity-plain : (g : Gear) (low : ℕ) → Plain (identityReply g low)
+unfolding identityReply
+identity-plain g low =
+    either (eqb low 0) value
+    (either (eqb low 1) value (either (eqb low 2) value (either (eqb low 3) value (either (eqb low 4) value nothing))))
+
+reply-plain : (g : Gear) (b : ℕ) → Plain (reply g b)
+unfolding reply
+reply-plain g b =
+    either (eqb (b / 16) 9) (status-plain g (b % 16))
+    (either (eqb (b / 16) 10) (setting-plain g (b % 16))
+    (either (eqb (b / 16) 11) value (either (eqb (b / 16) 12) (identity-plain g (b % 16)) nothing)))
+
+type-plain : (g : Gear) → Plain (deviceType g .answer)
+unfolding deviceType
+type-plain g = by-cases (eqb (g .unit .count) 0) (λ e. rw e value) (λ e. by-cases (eqb (g .unit .count) 1) (λ t. rw (e, t) value) (λ t. rw (e, t) value))
+
+next-plain : (g : Gear) (w : Walk) → Plain (next g w .answer)
+unfolding next nextAt
+next-plain g Off = nothing
+next-plain g (At n) = by-cases (leb (g .unit .count) n) (λ e. rw e value) (λ e. rw e value)
+
+pub query-judged : (g : Gear) (b : ℕ) → Judged (pick (listed queryBytes b) none (some Byte)) g (query g b)
+unfolding query nextDeviceType
+query-judged g b =
+    by-cases (eqb b 153) (λ e. let at : b ≡ 153 = eqb-true b 153 e in rw at (plain (type-plain g)))
+    (λ e.
+    by-cases (eqb b 167) (λ t. let at : b ≡ 167 = eqb-true b 167 t in rw at (plain (next-plain g (g .marks .walk))))
+    (λ t.
+    by-cases (isQuery b) (λ u. rw (← query-listed b, e, t, u) (plain (reply-plain g b))) (λ u. rw (← query-listed b, e, t, u) refl)))
+
+-- ## Writes
+
+unknown : (g : Gear) (b d : ℕ) → fitb g ≡ true → 256 ≤ b → applyStandardWrite g b d ≡ refused g Byte
+unfolding applyStandardWrite serve write
+unknown g b d fit h = rw (fit, command-high b h)
+
+pub write-judged : (g : Gear) (b d : ℕ) → fitb g ≡ true → Judged (pick (listed writeBytes b) none (some Byte)) g (applyStandardWrite g b d)
+write-judged g b d fit =
+    by-cases (ltb b 256)
+    (λ e.
+    let h = ltb-true b 256 e in
+    by-cases (isWrite b) (λ t. rw (← write-listed b h, t) (ap isRefusal (write-refusals g b d h .write fit t)))
+    (λ t. rw (← write-listed b h, t) (write-refusals g b d h .byte fit t)))
+    (λ e. let h = ltb-false b 256 e in rw (write-high b h) (unknown g b d fit h))
+
+-- ## Addresses
+
+pub address-judged : (g : Gear) (a : Address) → Judged (groupRefusal a) g (told g (judged g a))
+unfolding judged beyond matching
+address-judged g (Short a) = flag-plain _
+address-judged g (Group n) = by-cases (ltb 15 n) (λ e. rw e) (λ e. rw e (flag-plain _))
+address-judged g Broadcast = flag-plain _
+address-judged g Unaddressed = flag-plain _

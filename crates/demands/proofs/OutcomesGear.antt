@@ -1,0 +1,82 @@
+-- One outcome of every public function of gear, by its own promise (`Post`, the function's `ensures`).
+use Rattle.demands.specs.Outcome.{OneOutcome}
+use Rattle.demands.proofs.Outcome.{determined}
+use Rattle.gear.proofs.answer
+use Rattle.gear.proofs.marks
+use Rattle.gear.proofs.profile
+use Rattle.gear.proofs.record
+use Rattle.gear.proofs.scene
+use Rattle.gear.proofs.serve
+use Rattle.gear.proofs.write
+
+pub «answer::Refusal::number» : OneOutcome answer.Refusal.number.Reads.Post
+«answer::Refusal::number» κs args r r′ e e′ = determined
+
+pub «answer::flag» : OneOutcome answer.flag.Reads.Post
+«answer::flag» κs args r r′ e e′ = determined
+
+pub «answer::done» : OneOutcome answer.done.Reads.Post
+«answer::done» κs args r r′ e e′ = determined
+
+pub «answer::refused» : OneOutcome answer.refused.Reads.Post
+«answer::refused» κs args r r′ e e′ = determined
+
+pub «marks::Marks::with_walk» : OneOutcome marks.Marks.with_walk.Reads.Post
+«marks::Marks::with_walk» κs args r r′ e e′ = determined
+
+pub «marks::Marks::with_pair» : OneOutcome marks.Marks.with_pair.Reads.Post
+«marks::Marks::with_pair» κs args r r′ e e′ = determined
+
+pub «marks::Marks::power_up» : OneOutcome marks.Marks.power_up.Reads.Post
+«marks::Marks::power_up» κs args r r′ e e′ = determined
+
+pub «profile::Unit::is_type» : OneOutcome profile.Unit.is_type.Reads.Post
+«profile::Unit::is_type» κs args r r′ e e′ = determined
+
+pub «profile::Unit::is_dt6» : OneOutcome profile.Unit.is_dt6.Reads.Post
+«profile::Unit::is_dt6» κs args r r′ e e′ = determined
+
+pub «profile::Unit::is_dt8» : OneOutcome profile.Unit.is_dt8.Reads.Post
+«profile::Unit::is_dt8» κs args r r′ e e′ = determined
+
+pub «profile::Profile::none» : OneOutcome profile.Profile.none.Reads.Post
+«profile::Profile::none» κs args r r′ e e′ = determined
+
+pub «profile::Profile::accepted» : OneOutcome profile.Profile.accepted.Reads.Post
+«profile::Profile::accepted» κs args r r′ e e′ = determined
+
+pub «record::Gear::new» : OneOutcome record.Gear.new.Reads.Post
+«record::Gear::new» κs args r r′ e e′ = determined
+
+pub «record::Gear::fit» : OneOutcome record.Gear.fit.Reads.Post
+«record::Gear::fit» κs args r r′ e e′ = determined
+
+pub «scene::level_at» : OneOutcome scene.level_at.Reads.Post
+«scene::level_at» κs args r r′ e e′ = determined
+
+pub «scene::with_level» : OneOutcome scene.with_level.Reads.Post
+«scene::with_level» κs args r r′ e e′ = determined
+
+pub «scene::colour_at» : OneOutcome scene.colour_at.Reads.Post
+«scene::colour_at» κs args r r′ e e′ = determined
+
+pub «scene::with_colour» : OneOutcome scene.with_colour.Reads.Post
+«scene::with_colour» κs args r r′ e e′ = determined
+
+pub «scene::is_member» : OneOutcome scene.is_member.Reads.Post
+«scene::is_member» κs args r r′ e e′ = determined
+
+pub «scene::with_member» : OneOutcome scene.with_member.Reads.Post
+«scene::with_member» κs args r r′ e e′ = determined
+
+pub «serve::serve» : OneOutcome serve.serve.Reads.Post
+«serve::serve» κs args r r′ e e′ = determined
+
+pub «serve::tell» : OneOutcome serve.tell.Reads.Post
+«serve::tell» κs args r r′ e e′ = determined
+
+pub «write::apply_standard_write» : OneOutcome write.apply_standard_write.Reads.Post
+«write::apply_standard_write» κs args r r′ e e′ = determined
+
+pub «write::direct_arc_power» : OneOutcome write.direct_arc_power.Reads.Post
+«write::direct_arc_power» κs args r r′ e e′ = determined

@@ -1,0 +1,21 @@
+-- What every call keeps (document 01, 'Profile and fit record').
+use Prim.Native.Nat.{ℕ, _<_}
+use mathlib.Core.Path.{_≡_}
+use mathlib.Core.Bool.{true}
+use Rattle.demands.specs.Calls.{Call, perform}
+use Rattle.demands.specs.Calls.Call.{StoreTcLimit, PowerCycle}
+use Rattle.gear.specs.declared.record.Gear.{Gear}
+use Rattle.gear.specs.Record.{fitb}
+use Rattle.level.specs.Levels.{Bounded}
+
+-- a limit has 16 bits, as in the call: a wider one could make the record unfit. Of no other number is anything asked
+abbrev pub Sized : Call → Type 0
+Sized c = (value selector : ℕ) → c ≡ StoreTcLimit value selector → value < 65536
+
+-- a fit record stays fit
+abbrev pub KeepsFit : Type 0
+KeepsFit = (c : Call) (g : Gear) → Sized c → fitb g ≡ true → fitb (perform c g .gear) ≡ true
+
+-- 'level is 0 or within min..max' is kept by every call but the power cycle
+abbrev pub KeepsBounds : Type 0
+KeepsBounds = (c : Call) (g : Gear) → (c ≡ PowerCycle → ⊥) → Bounded (g .levels) → Bounded (perform c g .gear .levels)

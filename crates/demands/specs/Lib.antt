@@ -1,0 +1,10 @@
+pub mod Calls
+pub mod Demands
+pub mod Given
+pub mod Kept
+pub mod Outcome
+pub mod Promises
+pub mod Readings
+pub mod Refusals
+pub mod Steps
+pub mod Table
