@@ -10,6 +10,7 @@ pub mod Outcome
 pub mod OutcomesBank
 pub mod OutcomesCalls
 pub mod OutcomesColour
+pub mod OutcomesDaliGear
 pub mod OutcomesGear
 pub mod OutcomesLevel
 pub mod OutcomesNumbers

@@ -9,7 +9,7 @@ use Rattle.order.specs.Carry.{carry, colourStep, does, readColour, settl
 use Rattle.order.specs.Rows.{ColourStep, Row}
 use Rattle.order.specs.Rows.ColourStep.{Tc, Xy, Limit, Activated, SceneColour}
 use Rattle.order.specs.Table.{row}
-use Rattle.order.specs.Writes.{Write, Sized, after, perform}
+use Rattle.order.specs.Writes.{Sized, Write, after, callOf, perform}
 use Rattle.order.specs.Writes.Write.{ArcPower, Standard, TcStep, XyStep, TcLimit, Activation, Memory}
 use Rattle.order.proofs.Rowed.{rowed}
 use Rattle.calls.proofs.Kept as Calls
@@ -19,6 +19,7 @@ use Rattle.colour.specs.declared.setting.ColourSetting.{ColourSetting}
 use Rattle.colour.specs.declared.tint.ColorMode.the-variants.{None}
 use Rattle.colour.specs.Staging.{loadTemporariesFrom}
 use Rattle.colour.specs.Steps.{storeTcLimit, tcStep, xyStep}
+use Rattle.demands.specs.Calls.{perform as performCall}
 use Rattle.gear.specs.declared.record.Gear.{Gear}
 use Rattle.gear.specs.Record.{fitb}
 use Rattle.gear.proofs.Kept as Writes
@@ -56,7 +57,7 @@ carry-calm r g h = does-calm (readColour (r .scene) (g .colours)) (r .colour) _ 
 -- ---- fit
 
 fit-kept : (w : Write) (g : Gear) → Sized w → fitb g ≡ true → fitb (after w g) ≡ true
-unfolding perform
+unfolding perform performCall callOf
 fit-kept (ArcPower v) g z = Writes.arc-power-kept g v
 fit-kept (Standard byte d) g z = Writes.standard-write-kept g byte d
 fit-kept (TcStep warmer) g z = Calls.tc-step-kept g warmer

@@ -8,7 +8,7 @@ use Rattle.order.specs.Examples.{gear, manual, profile, staged}
 use Rattle.order.specs.Keys.{commandKeys, configKeys, keys}
 use Rattle.order.specs.Lists.{All, Apart, run}
 use Rattle.order.specs.Needed.{ActivationMatters, KeylessMatters, KeysMatter, StagedMatters}
-use Rattle.order.specs.Writes.{perform}
+use Rattle.order.specs.Writes.{callOf, perform}
 use Rattle.order.specs.Writes.Write.{ArcPower, Standard}
 use Rattle.order.proofs.Premises.{fresh-worded}
 use Rattle.order.proofs.Test.{keyed-sound, listed-sound}
@@ -19,6 +19,7 @@ use Rattle.colour.specs.Record.{fitb as colourFit, fresh, withFeatures}
 use Rattle.colour.specs.Setting.{factory, mask}
 use Rattle.colour.specs.Staging.{load, loadTemporariesFrom, takeStagedColour}
 use Rattle.colour.specs.Tint.{captured, liesWithin}
+use Rattle.demands.specs.Calls.{perform as performCall}
 use Rattle.gear.specs.Command.{commandOf, configCommand, levelCommand}
 use Rattle.gear.specs.declared.record.Gear.{Gear}
 use Rattle.gear.specs.Marks.{asked, configured, identified, walkFit}
@@ -39,7 +40,7 @@ told-apart f g h n m p q d e = d (sym p ∙ ap f e ∙ q)
 -- ---- P11: with 300 staged, SetScene 0 and SetScene 1
 
 pub staged-matters : StagedMatters staged (Standard 64 10 ∷ Standard 65 20 ∷ []) (Standard 65 20 ∷ Standard 64 10 ∷ [])
-unfolding run perform keys commandKeys configKeys commandOf levelCommand configCommand applyStandardWrite write configWrite setScene takeStagedColour captured stored colourAt stageCall recoloured loadTemporariesFrom load configured serve fitb freshGear fresh factory unitFit shortFit floor isType hasType member levelsFit colourFit limitsFit effectiveCoolest effectiveWarmest liesWithin walkFit automatic
+unfolding run perform performCall callOf keys commandKeys configKeys commandOf levelCommand configCommand applyStandardWrite write configWrite setScene takeStagedColour captured stored colourAt stageCall recoloured loadTemporariesFrom load configured serve fitb freshGear fresh factory unitFit shortFit floor isType hasType member levelsFit colourFit limitsFit effectiveCoolest effectiveWarmest liesWithin walkFit automatic
 staged-matters =
     record {
       fit = refl;
@@ -56,7 +57,7 @@ staged-matters =
 -- leave nothing staged, so that activation is the only premise that fails
 
 pub activation-matters : ActivationMatters manual (Standard 16 0 ∷ Standard 65 20 ∷ []) (Standard 65 20 ∷ Standard 16 0 ∷ [])
-unfolding run perform keys commandKeys configKeys commandOf levelCommand configCommand applyStandardWrite write configWrite setScene takeStagedColour captured stored colourAt levelAt stageCall setFeaturesCall withFeatures recoloured loadTemporariesFrom load configured recallScene recalledLevels recall asked setLevel held serve fitb freshGear fresh factory unitFit shortFit floor isType hasType member levelsFit colourFit limitsFit effectiveCoolest effectiveWarmest liesWithin walkFit arcPower automatic activate activated strays
+unfolding run perform performCall callOf keys commandKeys configKeys commandOf levelCommand configCommand applyStandardWrite write configWrite setScene takeStagedColour captured stored colourAt levelAt stageCall setFeaturesCall withFeatures recoloured loadTemporariesFrom load configured recallScene recalledLevels recall asked setLevel held serve fitb freshGear fresh factory unitFit shortFit floor isType hasType member levelsFit colourFit limitsFit effectiveCoolest effectiveWarmest liesWithin walkFit arcPower automatic activate activated strays
 activation-matters =
     record {
       fit = refl;
@@ -72,7 +73,7 @@ activation-matters =
 -- ---- P13: arc power 10 and 20, which share the level
 
 pub keys-matter : KeysMatter gear (ArcPower 10 ∷ ArcPower 20 ∷ []) (ArcPower 20 ∷ ArcPower 10 ∷ [])
-unfolding accepted run perform keys directArcPower serve fitb freshGear fresh factory unitFit shortFit floor isType hasType member levelsFit colourFit limitsFit effectiveCoolest effectiveWarmest liesWithin walkFit arcWrite asked keepsIdentify arcLevels arcLevel setLevel held arcPower automatic activate activated strays
+unfolding accepted run perform performCall callOf keys directArcPower serve fitb freshGear fresh factory unitFit shortFit floor isType hasType member levelsFit colourFit limitsFit effectiveCoolest effectiveWarmest liesWithin walkFit arcWrite asked keepsIdentify arcLevels arcLevel setLevel held arcPower automatic activate activated strays
 keys-matter =
     record {
       worded = fresh-worded profile (ArcPower 10 ∷ ArcPower 20 ∷ []) refl;
@@ -87,7 +88,7 @@ keys-matter =
 -- ---- and a call without a key: IdentifyDevice and SetFadeTime, which ends identifying
 
 pub keyless-matters : KeylessMatters gear (Standard 37 0 ∷ Standard 46 5 ∷ []) (Standard 46 5 ∷ Standard 37 0 ∷ [])
-unfolding accepted run perform keys commandKeys configKeys commandOf levelCommand configCommand applyStandardWrite write configWrite configured identify identified serve fitb freshGear fresh factory unitFit shortFit floor isType hasType member levelsFit colourFit limitsFit effectiveCoolest effectiveWarmest liesWithin walkFit automatic
+unfolding accepted run perform performCall callOf keys commandKeys configKeys commandOf levelCommand configCommand applyStandardWrite write configWrite configured identify identified serve fitb freshGear fresh factory unitFit shortFit floor isType hasType member levelsFit colourFit limitsFit effectiveCoolest effectiveWarmest liesWithin walkFit automatic
 keyless-matters =
     record {
       worded = fresh-worded profile (Standard 37 0 ∷ Standard 46 5 ∷ []) refl;

@@ -12,7 +12,7 @@ use Rattle.order.specs.Lists.{All, Apart}
 use Rattle.order.specs.Premises.{Ready}
 use Rattle.order.specs.Rows.{BankStep, has}
 use Rattle.order.specs.Table.{row}
-use Rattle.order.specs.Writes.{Write, after, perform, replies}
+use Rattle.order.specs.Writes.{Write, after, callOf, perform, replies}
 use Rattle.order.specs.Writes.Write.{ArcPower, Standard, TcStep, XyStep, TcLimit, Activation, Memory}
 use Rattle.order.proofs.Columns.{parted}
 use Rattle.order.proofs.Kept.{ready-kept}
@@ -22,6 +22,7 @@ use Rattle.bank.specs.declared.build.Banks.{Banks}
 use Rattle.bank.specs.Memory.{writeMemoryLocation}
 use Rattle.calls.specs.Colours.{activateCall, recoloured, storeTcLimitCall, tcStepCall, xyStepCall}
 use Rattle.calls.specs.Memory.{locationAnswer, rebanked, writeMemoryCall}
+use Rattle.demands.specs.Calls.{perform as performCall}
 use Rattle.gear.specs.Command.{commandOf}
 use Rattle.gear.specs.declared.answer.Answer.{Answer}
 use Rattle.gear.specs.declared.answer.Answer.the-variants.{Done}
@@ -58,7 +59,7 @@ command-done g EnableWriteMemory d n = refl
 command-done g Unknown d n = absurd (n refl)
 
 replied : (w : Write) (g : Gear) → Keyed w → fitb g ≡ true → perform w g .answer ≡ reply w (g .banks)
-unfolding perform keys directArcPower applyStandardWrite tcStepCall xyStepCall storeTcLimitCall activateCall writeMemoryCall recoloured rebanked writeMemoryLocation
+unfolding perform performCall callOf keys directArcPower applyStandardWrite tcStepCall xyStepCall storeTcLimitCall activateCall writeMemoryCall recoloured rebanked writeMemoryLocation
 replied (ArcPower v) g k e = served g _ e
 replied (Standard byte d) g k e = served g _ e ∙ command-done g (commandOf byte) d (k .key)
 replied (TcStep warmer) g k e = served g _ e

@@ -8,7 +8,7 @@ use Rattle.order.specs.Premises.{Ready}
 use Rattle.order.specs.Carry.{carry, colourStep, marked, settled}
 use Rattle.order.specs.Rows.ColourStep.{SceneColour}
 use Rattle.order.specs.Table.{arcRow, asking, commandRow, configRow, row}
-use Rattle.order.specs.Writes.{Write, after, perform}
+use Rattle.order.specs.Writes.{Write, after, callOf, perform}
 use Rattle.order.specs.Writes.Write.{ArcPower, Standard, TcStep, XyStep, TcLimit, Activation, Memory}
 use Rattle.order.proofs.Slots.{store-own}
 use Rattle.calls.specs.Colours.{activateCall, recoloured, storeTcLimitCall, tcStepCall, xyStepCall}
@@ -19,6 +19,7 @@ use Rattle.colour.specs.declared.setting.ColourSetting.{ColourSetting}
 use Rattle.colour.specs.declared.tint.ColorMode.the-variants.{None}
 use Rattle.colour.specs.Staging.{loadTemporariesFrom, takeStagedColour}
 use Rattle.colour.proofs.Left.{activate-none}
+use Rattle.demands.specs.Calls.{perform as performCall}
 use Rattle.gear.specs.Command.{commandOf}
 use Rattle.gear.specs.declared.answer.Outcome.{Outcome}
 use Rattle.gear.specs.declared.command.ConfigCommand.{ConfigCommand}
@@ -133,7 +134,7 @@ unfolding serve
 served g o e = rw e
 
 pub rowed : (w : Write) (g : Gear) → Keyed w → Ready g → after w g ≡ carry (row w) g
-unfolding perform row keys carry directArcPower applyStandardWrite tcStepCall xyStepCall storeTcLimitCall activateCall writeMemoryCall recoloured rebanked
+unfolding perform performCall callOf row keys carry directArcPower applyStandardWrite tcStepCall xyStepCall storeTcLimitCall activateCall writeMemoryCall recoloured rebanked
 rowed (ArcPower v) g k h = served g _ (h .fit) ∙ arc-rowed g (DirectArcPower v) h
 rowed (Standard byte d) g k h = served g _ (h .fit) ∙ command-rowed g (commandOf byte) d (k .key) h
 rowed (TcStep warmer) g k h = served g _ (h .fit)

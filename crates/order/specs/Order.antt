@@ -1,7 +1,8 @@
 -- Demand 3: writes without a common key may be sent in any order. The statement; proofs/EveryOrder.antt proves it twice.
 use mathlib.Core.Path.{_≡_}
 use mathlib.Core.List.{List, List·Permᴰ, map}
-use Rattle.order.specs.Later.{Call, outcomes}
+use Rattle.order.specs.Later.{outcomes}
+use Rattle.demands.specs.Calls.{Call}
 use Rattle.order.specs.Lists.{run}
 use Rattle.order.specs.Premises.{Listed}
 use Rattle.order.specs.Promises.{Performed}

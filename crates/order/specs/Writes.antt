@@ -3,11 +3,10 @@ use Prim.Native.Nat.{ℕ, _<_}
 use mathlib.Core.Bool.{Bool}
 use mathlib.Core.List.{List, [], _∷_}
 use Rattle.calls.specs.Colours.{activateCall, storeTcLimitCall, tcStepCall, xyStepCall}
-use Rattle.calls.specs.Memory.{writeMemoryCall}
 use Rattle.gear.specs.declared.answer.Answer.{Answer}
+use Rattle.demands.specs.Calls.{Call, perform as performCall}
 use Rattle.gear.specs.declared.answer.Outcome.{Outcome}
 use Rattle.gear.specs.declared.record.Gear.{Gear}
-use Rattle.gear.specs.Write.{applyStandardWrite, directArcPower}
 
 pub data Write : Type 0 where
   ArcPower : (level : ℕ) → Write
@@ -18,14 +17,18 @@ pub data Write : Type 0 where
   Activation : Write
   Memory : (bank offset value : ℕ) → Write
 
+-- the call that carries it out
+unfoldable pub callOf : Write → Call
+callOf (ArcPower level) = Call.ArcPower level
+callOf (Standard byte dtr0) = Call.StandardWrite byte dtr0
+callOf (TcStep warmer) = Call.TcStep warmer
+callOf (XyStep y up) = Call.XyStep y up
+callOf (TcLimit value selector) = Call.StoreTcLimit value selector
+callOf Activation = Call.Activate
+callOf (Memory bank offset value) = Call.WriteMemory bank offset value
+
 unfoldable pub perform : Write → Gear → Outcome
-perform (ArcPower level) g = directArcPower g level
-perform (Standard byte dtr0) g = applyStandardWrite g byte dtr0
-perform (TcStep warmer) g = tcStepCall g warmer
-perform (XyStep y up) g = xyStepCall g y up
-perform (TcLimit value selector) g = storeTcLimitCall g value selector
-perform Activation g = activateCall g
-perform (Memory bank offset value) g = writeMemoryCall g bank offset value
+perform w g = performCall (callOf w) g
 
 -- the record that a write leaves, served or refused
 abbrev pub after : Write → Gear → Gear
