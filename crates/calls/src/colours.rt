@@ -16,10 +16,11 @@ use colour::value::gear_features_byte as feature_byte;
 use colour::value::rgbwaf_control_byte as control_of;
 use gear::answer::Answer;
 use gear::answer::Outcome;
+use gear::answer::Refusal;
 use gear::answer::done;
 use gear::answer::flag;
+use gear::answer::refused;
 use gear::record::Gear;
-use gear::serve::serve;
 use gear::serve::tell;
 ghost use mathlib.Core.Path.{_≡_};
 ghost use Rattle.calls.specs.Colours.{recoloured, valueAnswer, tcStepCall, xyStepCall, storeTcLimitCall, stageCall, activateCall, copyReportCall, setFeaturesCall, colorValueCall, colourStatusCall, featuresCall, controlCall, featureByteCall, automaticCall};
@@ -28,9 +29,12 @@ ghost use Rattle.calls.specs.Colours.{recoloured, valueAnswer, tcStepCal
 fn recoloured(gear: Gear, colour: Colour) -> Outcome
     ensures { λ r. ⌜ r ≡ recoloured gear colour ⌝ }
 {
-    let mut next = gear;
-    next.colour = colour;
-    serve(gear, done(next))
+    if gear.fit() {
+        let mut next = gear;
+        next.colour = colour;
+        return done(next);
+    }
+    refused(gear, Refusal::Unfit)
 }
 
 pub fn tc_step(gear: Gear, warmer: bool) -> Outcome

@@ -12,10 +12,11 @@ use bank::setters::set_bank1_lock_byte as set_lock;
 use bank::setters::set_logical_gear_unit as set_unit;
 use gear::answer::Answer;
 use gear::answer::Outcome;
+use gear::answer::Refusal;
 use gear::answer::done;
 use gear::answer::flag;
+use gear::answer::refused;
 use gear::record::Gear;
-use gear::serve::serve;
 use gear::serve::tell;
 ghost use mathlib.Core.Path.{_≡_};
 ghost use Rattle.calls.specs.Memory.{locationAnswer, rebanked, memoryLocationCall, writeMemoryCall, advancesCall, implementsCall, setLockCall, setLocationCall, setUnitCall, setLastCall, clearNumberCall};
@@ -33,13 +34,15 @@ fn location_answer(found: Location) -> Answer
 fn rebanked(gear: Gear, answer: Answer, banks: Banks) -> Outcome
     ensures { λ r. ⌜ r ≡ rebanked gear answer banks ⌝ }
 {
-    let mut next = gear;
-    next.banks = banks;
-    let outcome = Outcome {
-        answer: answer,
-        gear: next,
-    };
-    serve(gear, outcome)
+    if gear.fit() {
+        let mut next = gear;
+        next.banks = banks;
+        return Outcome {
+            answer: answer,
+            gear: next,
+        };
+    }
+    refused(gear, Refusal::Unfit)
 }
 
 pub fn memory_location(gear: Gear, bank: u8, offset: u8) -> Answer

@@ -1,11 +1,12 @@
 // Send-twice pairing (part 101, 9.3): a frame waits for its second copy.
 use gear::answer::Answer;
 use gear::answer::Outcome;
+use gear::answer::Refusal;
 use gear::answer::flag;
+use gear::answer::refused;
 use gear::marks::Pair;
 use gear::marks::Walk;
 use gear::record::Gear;
-use gear::serve::serve;
 use gear::serve::tell;
 ghost use mathlib.Core.Path.{_≡_};
 ghost use Rattle.calls.specs.Pairing.{waits, isOpen, waiting, heardAnswer, paired, hear, hearCall, holdsCall, hearElsewhereCall};
@@ -86,7 +87,10 @@ fn heard(gear: Gear, frame: u16, repeats: bool) -> Outcome
 pub fn hear(gear: Gear, frame: u16, repeats: bool) -> Outcome
     ensures { λ r. ⌜ r ≡ hearCall gear frame repeats ⌝ }
 {
-    serve(gear, heard(gear, frame, repeats))
+    if gear.fit() {
+        return heard(gear, frame, repeats);
+    }
+    refused(gear, Refusal::Unfit)
 }
 
 pub fn holds(gear: Gear, frame: u16) -> Answer
@@ -101,13 +105,15 @@ pub fn holds(gear: Gear, frame: u16) -> Answer
 pub fn hear_elsewhere(gear: Gear) -> Outcome
     ensures { λ r. ⌜ r ≡ hearElsewhereCall gear ⌝ }
 {
-    let marks = gear.marks;
-    let pair = marks.pair;
-    let mut next = gear;
-    next.marks = marks.with_walk(Walk::Off).with_pair(Pair::Closed);
-    let outcome = Outcome {
-        answer: flag(is_open(pair)),
-        gear: next,
-    };
-    serve(gear, outcome)
+    if gear.fit() {
+        let marks = gear.marks;
+        let pair = marks.pair;
+        let mut next = gear;
+        next.marks = marks.with_walk(Walk::Off).with_pair(Pair::Closed);
+        return Outcome {
+            answer: flag(is_open(pair)),
+            gear: next,
+        };
+    }
+    refused(gear, Refusal::Unfit)
 }

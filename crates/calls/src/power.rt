@@ -1,8 +1,9 @@
 // A power cycle (part 102, 9.13; part 209, table 8).
 use gear::answer::Outcome;
+use gear::answer::Refusal;
 use gear::answer::done;
+use gear::answer::refused;
 use gear::record::Gear;
-use gear::serve::serve;
 ghost use mathlib.Core.Path.{_≡_};
 ghost use Rattle.calls.specs.Power.{powerCycle, powerCycleCall};
 
@@ -23,5 +24,8 @@ fn cycled(gear: Gear) -> Gear
 pub fn power_cycle(gear: Gear) -> Outcome
     ensures { λ r. ⌜ r ≡ powerCycleCall gear ⌝ }
 {
-    serve(gear, done(cycled(gear)))
+    if gear.fit() {
+        return done(cycled(gear));
+    }
+    refused(gear, Refusal::Unfit)
 }

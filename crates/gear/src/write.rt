@@ -14,7 +14,6 @@ use crate::scene::level_at;
 use crate::scene::with_colour;
 use crate::scene::with_level;
 use crate::scene::with_member;
-use crate::serve::serve;
 use colour::activation::arc_power_activation;
 use colour::activation::recall;
 use colour::setting::ColourSetting;
@@ -260,15 +259,18 @@ fn write(gear: Gear, command: StandardCommand, dtr0: u8) -> Outcome
 pub fn apply_standard_write(gear: Gear, byte: u8, dtr0: u8) -> Outcome
     ensures { λ r. ⌜ r ≡ applyStandardWrite gear byte dtr0 ⌝ }
 {
-    serve(gear, write(gear, command_of(byte), dtr0))
+    if gear.fit() {
+        return write(gear, command_of(byte), dtr0);
+    }
+    refused(gear, Refusal::Unfit)
 }
 
 // Direct arc power, which has no byte of its own.
 pub fn direct_arc_power(gear: Gear, level: u8) -> Outcome
     ensures { λ r. ⌜ r ≡ directArcPower gear level ⌝ }
 {
-    serve(
-        gear,
-        done(arc_write(gear, ArcCommand::DirectArcPower(level))),
-    )
+    if gear.fit() {
+        return done(arc_write(gear, ArcCommand::DirectArcPower(level)));
+    }
+    refused(gear, Refusal::Unfit)
 }

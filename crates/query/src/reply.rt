@@ -17,7 +17,6 @@ use gear::marks::Walk;
 use gear::record::Gear;
 use gear::scene::colour_at;
 use gear::scene::level_at;
-use gear::serve::serve;
 ghost use mathlib.Core.Path.{_≡_};
 ghost use Rattle.query.specs.Reply.{isStatusQuery, isSettingQuery, isQuery, yes, statusReply, packedFades, gearFailure, settingReply, identityReply, reply, reportFor, reported, heardQuery, query, gearQueryReply};
 
@@ -224,5 +223,8 @@ fn query(gear: Gear, byte: u8) -> Outcome
 pub fn gear_query_reply(gear: Gear, byte: u8) -> Outcome
     ensures { λ r. ⌜ r ≡ gearQueryReply gear byte ⌝ }
 {
-    serve(gear, query(gear, byte))
+    if gear.fit() {
+        return query(gear, byte);
+    }
+    refused(gear, Refusal::Unfit)
 }

@@ -48,9 +48,8 @@ fn run_steps(gear: Gear, steps: &[u8], count: usize, out: &mut [u8]) -> Finished
     while k < count {
         let outcome = performed(state, steps, k);
         let answer = outcome.answer;
-        let next = outcome.gear;
+        state = outcome.gear;
         at = put_line(out, at, k + 1, answer);
-        state = next;
         k += 1;
     }
     Finished {

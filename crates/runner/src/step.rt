@@ -15,11 +15,13 @@ use gear::answer::Outcome;
 use gear::answer::Refusal;
 use gear::answer::refused;
 use gear::record::Gear;
-use gear::serve::serve;
 use gear::write::apply_standard_write;
 use gear::write::direct_arc_power;
 use query::reply::gear_query_reply;
 ghost use mathlib.Core.Path.{_≡_};
+ghost use Rattle.gear.specs.Answer.{refused};
+ghost use Rattle.gear.specs.declared.answer.Refusal.the-variants.{Byte};
+ghost use Rattle.gear.specs.Serve.{serve};
 ghost use Rattle.runner.specs.Step.{pair, unchanged, temperature, colourStep, step};
 
 // Two bytes as a number, high byte first.
@@ -49,6 +51,15 @@ fn temperature(tc: u16) -> ColourSetting
     setting
 }
 
+fn no_such_kind(gear: Gear) -> Outcome
+    ensures { λ r. ⌜ r ≡ serve gear (refused gear Byte) ⌝ }
+{
+    if gear.fit() {
+        return refused(gear, Refusal::Byte);
+    }
+    refused(gear, Refusal::Unfit)
+}
+
 // Kinds 6 to 12, and any above, which there are not.
 fn colour_step(gear: Gear, kind: u8, a: u8, value: u16) -> Outcome
     ensures { λ r. ⌜ r ≡ colourStep gear kind a value ⌝ }
@@ -61,7 +72,7 @@ fn colour_step(gear: Gear, kind: u8, a: u8, value: u16) -> Outcome
         10 => power_cycle(gear),
         11 => copy_report_to_temporary(gear),
         12 => set_gear_features(gear, a),
-        _ => serve(gear, refused(gear, Refusal::Byte)),
+        _ => no_such_kind(gear),
     }
 }
 

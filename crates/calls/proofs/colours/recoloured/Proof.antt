@@ -1,18 +1,26 @@
--- `colours::recoloured` meets its contract: the callees give the parts.
+-- `colours::recoloured` meets its contract: a fit record is served, and any other comes back.
 use Rattle.calls.specs.Colours.{recoloured}
 use borrow.Author.Needs.{needs}
+use Rattle.gear.specs.Serve.{serve}
 use Rattle.calls.proofs.colours.recoloured.Statement.{statement}
 use Rattle.calls.proofs.colours.recoloured.Tie as tie
+
+fit-requires : tie.Need-fit-requires
+fit-requires c κs = search needs
 
 done-requires : tie.Need-done-requires
 done-requires c κs = search needs
 
-serve-requires : tie.Need-serve-requires
-serve-requires c κs = search needs
-
 returns : tie.Need-returns
-unfolding recoloured
-returns c = simp (c .serve .ensures, c .before .done .ensures)
+unfolding recoloured serve
+returns c = simp (c .done .ensures, c .before .if1 .taken, ← c .before .before .fit .ensures)
+
+refused-requires : tie.Need-refused-requires
+refused-requires c κs = search needs
+
+returns-2 : tie.Need-returns-2
+unfolding recoloured serve
+returns-2 c = simp (c .refused .ensures, c .before .if1 .left, ← c .before .before .fit .ensures)
 
 pub recoloured-spec : {M : Type 1} → statement M
-recoloured-spec = tie.close (tie.spec done-requires serve-requires returns)
+recoloured-spec = tie.close (tie.spec fit-requires done-requires returns refused-requires returns-2)

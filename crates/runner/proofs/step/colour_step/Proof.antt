@@ -29,11 +29,8 @@ copy-report-to-temporary-requires c κs = search needs
 set-gear-features-requires : tie.Need-set-gear-features-requires
 set-gear-features-requires c κs = search needs
 
-refused-requires : tie.Need-refused-requires
-refused-requires c κs = search needs
-
-serve-requires : tie.Need-serve-requires
-serve-requires c κs = search needs
+no-such-kind-requires : tie.Need-no-such-kind-requires
+no-such-kind-requires c κs = search needs
 
 returns : tie.Need-returns
 unfolding colourStep
@@ -65,7 +62,7 @@ returns-7 c = simp (← c .set-gear-features .ensures, c .before .match .keys7)
 
 returns-8 : tie.Need-returns-8
 unfolding colourStep
-returns-8 c = simp (c .serve .ensures, c .before .refused .ensures, ne-eqb _ _ (c .before .before .match .rest .1), ne-eqb _ _ (c .before .before .match .rest .0 .1), ne-eqb _ _ (c .before .before .match .rest .0 .0 .1), ne-eqb _ _ (c .before .before .match .rest .0 .0 .0 .1), ne-eqb _ _ (c .before .before .match .rest .0 .0 .0 .0 .1), ne-eqb _ _ (c .before .before .match .rest .0 .0 .0 .0 .0 .1), ne-eqb _ _ (c .before .before .match .rest .0 .0 .0 .0 .0 .0 .1))
+returns-8 c = simp (c .no-such-kind .ensures, ne-eqb _ _ (c .before .match .rest .1), ne-eqb _ _ (c .before .match .rest .0 .1), ne-eqb _ _ (c .before .match .rest .0 .0 .1), ne-eqb _ _ (c .before .match .rest .0 .0 .0 .1), ne-eqb _ _ (c .before .match .rest .0 .0 .0 .0 .1), ne-eqb _ _ (c .before .match .rest .0 .0 .0 .0 .0 .1), ne-eqb _ _ (c .before .match .rest .0 .0 .0 .0 .0 .0 .1))
 
 pub colour-step-spec : {M : Type 1} → statement M
 colour-step-spec =
@@ -79,8 +76,7 @@ colour-step-spec =
     power-cycle-requires
     copy-report-to-temporary-requires
     set-gear-features-requires
-    refused-requires
-    serve-requires
+    no-such-kind-requires
     returns
     returns-2
     returns-3
