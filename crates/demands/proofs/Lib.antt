@@ -17,4 +17,5 @@ pub mod OutcomesQuery
 pub mod OutcomesRunner
 pub mod Promises
 pub mod Readings
+pub mod Runs
 pub mod Steps
