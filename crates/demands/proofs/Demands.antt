@@ -3,6 +3,7 @@ use Rattle.demands.specs.Demands.{Demands}
 use Rattle.demands.proofs.Exactly.{exactly, promised-exactly}
 use Rattle.demands.proofs.Given.{refusals}
 use Rattle.demands.proofs.Kept.{keeps-fit, keeps-bounds}
+use Rattle.demands.proofs.PowerCycle.{power-cycle-breaks}
 use Rattle.demands.proofs.Promises.{rule-promised}
 use Rattle.demands.proofs.Readings.{readings}
 use Rattle.demands.proofs.Runs.{runs}
@@ -29,5 +30,6 @@ demands =
           };
       keeps-fit = keeps-fit;
       keeps-bounds = keeps-bounds;
+      power-cycle = power-cycle-breaks;
       readings = readings;
     }

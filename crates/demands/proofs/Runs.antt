@@ -1,7 +1,7 @@
 -- A run that is refused, or whose buffer is too short, leaves the lent buffer as it was.
 use mathlib.Core.Path.{sym, _∙_}
 use Rattle.demands.specs.Runs.{Runs}
-use Rattle.demands.proofs.Built.{file-judged}
+use Rattle.demands.proofs.ProfileAndFile.{file-judged}
 use Rattle.runner.proofs.Whole.{reported-none}
 
 pub runs : Runs

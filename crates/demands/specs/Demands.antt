@@ -4,7 +4,7 @@ use mathlib.Core.Path.{_≡_}
 use mathlib.Core.Option.{none}
 use Rattle.demands.specs.Calls.{Call, perform}
 use Rattle.demands.specs.Given.{Refusals}
-use Rattle.demands.specs.Kept.{KeepsFit, KeepsBounds}
+use Rattle.demands.specs.Kept.{KeepsFit, KeepsBounds, PowerCycleBreaks}
 use Rattle.demands.specs.Promises.{Promised, PromisedNew, PromisedStep}
 use Rattle.demands.specs.Refusals.{Judged, refusalOf}
 use Rattle.demands.specs.Runs.{Runs}
@@ -38,8 +38,9 @@ pub record ByThePromises : Type 1 where
 pub record Demands : Type 1 where
   pub by-the-rules : ByTheRules
   pub by-the-promises : ByThePromises
-  -- what every call keeps
+  -- what every call keeps, and the one exception
   pub keeps-fit : KeepsFit
   pub keeps-bounds : KeepsBounds
+  pub power-cycle : PowerCycleBreaks
   -- P1 to P13
   pub readings : Readings
