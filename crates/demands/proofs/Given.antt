@@ -2,7 +2,7 @@
 use mathlib.Core.Path.{ap}
 use native.Mathlib.Omega.{arith}
 use Rattle.demands.specs.Given.{Refusals}
-use Rattle.demands.proofs.Built.{profile-judged, file-judged}
+use Rattle.demands.proofs.ProfileAndFile.{profile-judged, file-judged}
 use Rattle.demands.proofs.Named.{fit-named, table-given, unfit-given, fit-only, unlisted-table, above-table}
 use Rattle.gear.specs.Answer.{refusalNumber}
 use Rattle.gear.specs.declared.answer.Refusal.the-variants.{Profile as ProfileRefused, Unfit, Byte, Group as GroupAbove, File as FileRefused}

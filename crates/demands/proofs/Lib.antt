@@ -1,5 +1,4 @@
 pub mod Answers
-pub mod Built
 pub mod Bytes
 pub mod Demands
 pub mod Exactly
@@ -16,6 +15,9 @@ pub mod OutcomesLevel
 pub mod OutcomesNumbers
 pub mod OutcomesQuery
 pub mod OutcomesRunner
+pub mod PowerCycle
+pub mod ProfileAndFile
 pub mod Promises
 pub mod Readings
+pub mod Runs
 pub mod Steps

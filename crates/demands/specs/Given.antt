@@ -54,7 +54,7 @@ pub record RefusedAt (s old : List ℕ) (offset : ℕ) : Type 0 where
 
 pub record FileJudged (s old : List ℕ) : Type 0 where
   pub given : wellFormed s ≡ false → (offset : ℕ) × RefusedAt s old offset
-  pub only : (offset : ℕ) → ran s (length old) ≡ Malformed offset → wellFormed s ≡ false
+  pub only : (offset : ℕ) → ran s (length old) ≡ Malformed offset → (wellFormed s ≡ false) × (checked s ≡ Bad offset)
   -- a buffer that is too short is no refusal: it gets its answer, and keeps every byte
   pub short : wellFormed s ≡ true → length old < room s → (ran s (length old) ≡ Short (room s)) × (ranInto s old ≡ old)
   pub served : wellFormed s ≡ true → room s ≤ length old → ran s (length old) ≡ Lines (length (printed s))

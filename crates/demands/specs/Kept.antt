@@ -19,3 +19,10 @@ KeepsFit = (c : Call) (g : Gear) → Sized c → fitb g ≡ true → fitb (perfo
 -- 'level is 0 or within min..max' is kept by every call but the power cycle
 abbrev pub KeepsBounds : Type 0
 KeepsBounds = (c : Call) (g : Gear) → (c ≡ PowerCycle → ⊥) → Bounded (g .levels) → Bounded (perform c g .gear .levels)
+
+-- the power cycle does not: a fit record within bounds that it takes out of them
+pub record PowerCycleBreaks : Type 0 where
+  pub gear : Gear
+  pub fit : fitb gear ≡ true
+  pub bounded : Bounded (gear .levels)
+  pub broken : Bounded (perform PowerCycle gear .gear .levels) → ⊥

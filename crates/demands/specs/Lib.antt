@@ -6,5 +6,6 @@ pub mod Outcome
 pub mod Promises
 pub mod Readings
 pub mod Refusals
+pub mod Runs
 pub mod Steps
 pub mod Table

@@ -1,4 +1,5 @@
 -- What the Rattle function of each call promises, as its own `ensures` says it: o is an outcome that the call may have.
+use Prim.Native.Nat.{ℕ}
 use mathlib.Core.Path.{_≡_}
 use Rattle.demands.specs.Calls.{Call}
 use Rattle.demands.specs.Calls.Call.{StandardWrite, ArcPower, Query, Matches, TcStep, XyStep, StoreTcLimit, Stage, Activate, CopyReport, SetFeatures, ColorValue, ColourStatus, Features, ControlByte, FeatureByte, Automatic, ReadMemory, WriteMemory, AdvancesDtr0, ImplementsBank, SetLockByte, SetLocation, SetGearUnit, SetLastOffset, ClearNumber, Hear, HoldsFrame, HearElsewhere, PowerCycle, StatusByte, LampOn, FailureBits, ThermalShutDown, LampFailure, ActualLevel, IsType, SetEnabled, SetLampFailure, SetLampStarting, SetFaults}
@@ -12,7 +13,10 @@ use Rattle.calls.proofs.setters
 use Rattle.gear.proofs.write
 use Rattle.query.proofs.reply
 use Rattle.gear.specs.declared.answer.Outcome.{Outcome}
+use Rattle.gear.specs.declared.profile.Profile.{Profile}
 use Rattle.gear.specs.declared.record.Gear.{Gear}
+use Rattle.gear.proofs.record
+use Rattle.runner.proofs.step
 
 -- `Post` is the function's promise, of its arguments, its result, and its arguments as they are at the end, which for values is as
 -- they were. A call that only answers hands back no record: the caller's own stays as it was.
@@ -58,3 +62,10 @@ Promised (SetEnabled enabled) g o = setters.set_enabled.Reads.Post tt (g, (enabl
 Promised (SetLampFailure failure) g o = setters.set_lamp_failure.Reads.Post tt (g, (failure, tt)) o (g, (failure, tt))
 Promised (SetLampStarting starting) g o = setters.set_lamp_starting.Reads.Post tt (g, (starting, tt)) o (g, (starting, tt))
 Promised (SetFaults faults) g o = setters.set_faults.Reads.Post tt (g, (faults, tt)) o (g, (faults, tt))
+
+-- building a gear, and a step of a session
+abbrev pub PromisedNew : Profile → Outcome → Type 0
+PromisedNew p o = record.Gear.new.Reads.Post tt (p, tt) o (p, tt)
+
+abbrev pub PromisedStep : Gear → ℕ → ℕ → ℕ → ℕ → Outcome → Type 0
+PromisedStep g kind a b c o = step.step.Reads.Post tt (g, (kind, (a, (b, (c, tt))))) o (g, (kind, (a, (b, (c, tt)))))

@@ -1,7 +1,7 @@
 -- Document 01's readings P1 to P13 as one table, under a single statement about the rules: `Readings`.
 use Prim.Native.Nat.{ℕ, _+_}
 use mathlib.Core.Bool.{Bool, true, false}
-use mathlib.Core.List.{List, [], _∷_, _++_}
+use mathlib.Core.List.{List, [], _∷_}
 use lib.ListN.{replicate}
 use Rattle.demands.specs.Calls.{Call}
 use Rattle.demands.specs.Calls.Call.{StandardWrite, ArcPower, Query, StoreTcLimit, Stage, Activate, SetFeatures, ColorValue, ColourStatus, ReadMemory, WriteMemory}

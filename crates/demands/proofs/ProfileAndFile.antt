@@ -56,6 +56,13 @@ module _ (s old : List ℕ) where
       let kept = served-bad s old (bad .1) in
       (bad .0, record { judged = bad .1; answer = sym (kept .0); buffer = sym (kept .1) })
 
+  offset-so : wellFormed s ≡ false → (x : ℕ) → ran s (length old) ≡ Malformed x → checked s ≡ Bad x
+  offset-so e x r =
+      let at = refused-at e in
+      let same : Malformed (at .0) ≡ Malformed x = sym (at .1 .answer) ∙ r in
+      let offset : at .0 ≡ x = cc in
+      at .1 .judged ∙ ap Bad offset
+
   reported-so : wellFormed s ≡ true → (ran s (length old) ≡ reported s (length old)) × (ranInto s old ≡ reportedInto s old)
   unfolding ran ranInto
   reported-so e = let good = good-so e in (rw good, rw good)
@@ -76,7 +83,7 @@ module _ (s old : List ℕ) where
             λ x r.
             by-cases (wellFormed s)
             (λ e. no-false (sym never-malformed ∙ ap isMalformed (sym (reported-so e .0) ∙ r)))
-            (λ e. e);
+            (λ e. (e, offset-so e x r));
         short =
             λ e h.
             let so = reported-so e in
