@@ -69,9 +69,6 @@ pub «scene::is_member» : OneOutcome scene.is_member.Reads.Post
 pub «scene::with_member» : OneOutcome scene.with_member.Reads.Post
 «scene::with_member» κs args r r′ e e′ = determined
 
-pub «serve::serve» : OneOutcome serve.serve.Reads.Post
-«serve::serve» κs args r r′ e e′ = determined
-
 pub «serve::tell» : OneOutcome serve.tell.Reads.Post
 «serve::tell» κs args r r′ e e′ = determined
 

@@ -3,5 +3,4 @@ pub mod Built
 pub mod Fit
 pub mod Kept
 pub mod Member
-pub mod Readings
 pub mod Refusals

@@ -1,34 +1,24 @@
 -- The walk through the type list, as document 01 says: with n ≥ 2 codes query 153 answers 255, the next n queries 167 list the
 -- codes in order, and every one after that answers 254; with n of 0 or 1, query 167 after 153 has no answer.
-use Prim.Native.Nat.{ℕ, zero, suc, _+_, _≤_, _<_, min}
-use mathlib.Core.Path.{_≡_, refl, sym, _∙_, ap}
-use mathlib.Core.Bool.{Bool, true, false}
-use mathlib.Core.List.{_∷_}
-use lib.Dec.{eqb, leb, lit<, lit≤}
-use lib.ListN.{getD, replicate}
+use Prim.Native.Nat.{ℕ, zero, suc, _+_, _≤_, _<_}
+use mathlib.Core.Path.{_≡_, refl, _∙_, ap}
+use mathlib.Core.Bool.{true}
+use lib.Dec.{eqb, leb}
+use lib.ListN.{getD}
 use native.Mathlib.Omega.{arith}
 use native.Mathlib.Numerals.{add-one}
 use borrow.Author.Tests.{le-leb, leb-false, leb-true, lt-leb, eq-eqb, ne-eqb, eqb-false}
-use Rattle.query.specs.Reply.{isQuery, query, gearQueryReply}
+use Rattle.query.specs.Reply.{query, gearQueryReply}
 use Rattle.query.specs.Walk.{walking, typeAt, deviceType, nextAt, next, nextDeviceType}
 use Rattle.query.proofs.Kept.{at-most, walking-kept}
 use Rattle.gear.specs.declared.answer.Answer.the-variants.{Value, Nothing}
 use Rattle.gear.specs.declared.answer.Outcome.{Outcome}
-use Rattle.gear.specs.declared.marks.Walk.{Walk}
 use Rattle.gear.specs.declared.marks.Walk.the-variants.{Off, At}
 use Rattle.gear.specs.declared.record.Gear.{Gear}
 use Rattle.gear.specs.Marks.{walkFit}
-use Rattle.gear.specs.declared.profile.Short.the-variants.{Missing}
-use Rattle.gear.specs.Profile.{floor, isType, shortFit, unitFit}
-use Rattle.gear.specs.Record.{fitb, freshGear}
-use Rattle.gear.specs.Types.{hasType, member}
-use Rattle.colour.specs.Limits.{effectiveCoolest, effectiveWarmest, limitsFit}
-use Rattle.colour.specs.Record.{fitb as colourFit, fresh}
-use Rattle.colour.specs.Tint.{liesWithin}
-use Rattle.level.specs.Levels.{levelsFit}
+use Rattle.gear.specs.Record.{fitb}
 use Rattle.gear.specs.Serve.{serve}
-use Rattle.gear.proofs.Fit.{GearFit, count-most, facts, fit}
-use Rattle.numbers.specs.Numbers.{pick}
+use Rattle.gear.proofs.Fit.{count-most, facts, fit}
 use Rattle.numbers.proofs.Logic.{by-cases}
 
 -- the record after query 153 and k queries 167, with no other call between
@@ -140,41 +130,3 @@ still g e h (suc k) =
 pub unwalked : (g : Gear) → fitb g ≡ true → g .unit .count ≤ 1 → (k : ℕ) → gearQueryReply (told g k) 167 .answer ≡ Nothing
 unwalked g e h k =
     ap (λ (x : Gear). gearQueryReply x 167 .answer) (still g e h k) ∙ ap (λ (o : Outcome). o .answer) (silent g e)
-
--- ---- P10
-
-pub twoTypes : Gear
-twoTypes =
-    freshGear
-    (record {
-      unit =
-          record {
-            short = Missing;
-            random = 0;
-            types = 6 ∷ 8 ∷ replicate 14 0;
-            count = 2;
-            adjustable = false;
-            holds = false;
-            bare = false;
-            minimum = 1;
-          };
-      can = record { tc = true; xy = false; channels = 0 };
-      coolest = 153;
-      warmest = 400;
-    })
-
-two-fit : fitb twoTypes ≡ true
-unfolding colourFit effectiveCoolest effectiveWarmest fitb floor fresh freshGear hasType isType levelsFit liesWithin limitsFit member shortFit twoTypes unitFit walkFit
-two-fit = refl
-
--- types 6 and 8: 255, 6, 8, 254, 254
-pub p10 :
-    (gearQueryReply twoTypes 153 .answer ≡ Value 255) ×
-    (gearQueryReply (told twoTypes 0) 167 .answer ≡ Value 6) ×
-    (gearQueryReply (told twoTypes 1) 167 .answer ≡ Value 8) ×
-    (gearQueryReply (told twoTypes 2) 167 .answer ≡ Value 254) ×
-    (gearQueryReply (told twoTypes 3) 167 .answer ≡ Value 254)
-unfolding freshGear twoTypes
-p10 =
-    let w = walked twoTypes two-fit (lit≤ tt) in
-    (w .several, w .codes 0 (lit< tt), w .codes 1 (lit< tt), w .over 2 (lit≤ tt), w .over 3 (lit≤ tt))
