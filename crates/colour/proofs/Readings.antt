@@ -12,7 +12,8 @@ use Rattle.colour.specs.Limits.{effectiveCoolest, effectiveWarmest, stor
 use Rattle.colour.specs.Record.{fresh}
 use Rattle.colour.specs.Staging.{load, loadTemporariesFrom}
 use Rattle.colour.specs.Steps.{snaps, snapped, storeTcLimit}
-use Rattle.colour.specs.Value.{kindOf, colorValue, colourStatus}
+use Rattle.colour.specs.Kinds.{kindOf}
+use Rattle.colour.specs.Value.{colorValue, colourStatus}
 
 -- a gear that can do Tc alone, with physical limits 153..400
 abbrev warmGear : Colour

@@ -15,7 +15,8 @@ use Rattle.colour.specs.Setting.{factory}
 use Rattle.colour.specs.Staging.{load, loadTemporariesFrom, takeStagedColour}
 use Rattle.colour.specs.Steps.{snaps, snapped, storeTcLimit}
 use Rattle.colour.specs.Tint.{captured, face, liesWithin}
-use Rattle.colour.specs.Value.{kindOf, colorValue, colourStatus}
+use Rattle.colour.specs.Kinds.{kindOf}
+use Rattle.colour.specs.Value.{colorValue, colourStatus}
 use Rattle.gear.specs.Answer.{flag}
 use Rattle.gear.specs.Command.{levelCommand, configCommand, commandOf}
 use Rattle.gear.specs.Marks.{asked, configured, walkFit}

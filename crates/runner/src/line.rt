@@ -78,7 +78,7 @@ fn put_answer(buf: &mut [u8], at: usize, answer: Answer) -> usize
 }
 
 // A step's number and its answer.
-pub fn put_line(buf: &mut [u8], at: usize, number: usize, answer: Answer) -> usize
+pub(crate) fn put_line(buf: &mut [u8], at: usize, number: usize, answer: Answer) -> usize
     requires { ⌜ at + length (lineText number answer) ≤ length (now buf) ⌝ }
     ensures { λ r. ⌜ Wrote (now (buf .entry)) at (lineText number answer) (now (buf .exit)) r ⌝ }
 {
@@ -99,7 +99,7 @@ fn put_letters(buf: &mut [u8], at: usize, a: u8, b: u8, c: u8, d: u8) -> usize
 }
 
 // The last line: `end`, level, min and max.
-pub fn put_end(buf: &mut [u8], at: usize, level: u8, min: u8, max: u8) -> usize
+pub(crate) fn put_end(buf: &mut [u8], at: usize, level: u8, min: u8, max: u8) -> usize
     requires { ⌜ at + 16 ≤ length (now buf) ⌝ }
     ensures line { λ r. ⌜ Wrote (now (buf .entry)) at (endText level min max) (now (buf .exit)) r ⌝ }
     ensures within { λ r. ⌜ r ≤ length (now (buf .entry)) ⌝ }
@@ -111,7 +111,7 @@ pub fn put_end(buf: &mut [u8], at: usize, level: u8, min: u8, max: u8) -> usize
 }
 
 // The only line for a malformed file.
-pub fn put_bad(buf: &mut [u8], at: usize, offset: usize) -> usize
+pub(crate) fn put_bad(buf: &mut [u8], at: usize, offset: usize) -> usize
     requires { ⌜ at + length (badText offset) ≤ length (now buf) ⌝ }
     ensures { λ r. ⌜ Wrote (now (buf .entry)) at (badText offset) (now (buf .exit)) r ⌝ }
 {

@@ -5,10 +5,10 @@ use Prim.Native.Nat.{ℕ}
 use lib.Dec.{eqb, eqb→eq}
 use lib.ListN.{getD}
 use borrow.Author.Needs.{needs}
-use Rattle.colour.specs.Value.{kindOf}
+use Rattle.colour.specs.Kinds.{kindOf}
 use Rattle.numbers.proofs.Table.{at}
-use Rattle.colour.proofs.value.kind_of.Statement.{statement}
-use Rattle.colour.proofs.value.kind_of.Tie as tie
+use Rattle.colour.proofs.kinds.kind_of.Statement.{statement}
+use Rattle.colour.proofs.kinds.kind_of.Tie as tie
 
 kinds : List ℕ
 kinds =
