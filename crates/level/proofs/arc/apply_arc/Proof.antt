@@ -1,4 +1,4 @@
--- `arc::apply_arc` meets its contract: at each return the arm tells the mode.
+-- `arc::apply_arc` meets its contract: at each return the arm tells the command.
 use Rattle.level.specs.Arc.{arcLevels}
 use borrow.Author.Needs.{needs}
 use Rattle.level.proofs.arc.apply_arc.Statement.{statement}

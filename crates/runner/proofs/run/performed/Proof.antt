@@ -1,3 +1,4 @@
+-- `run::performed` meets its contract: the four bytes of a step are its kind, a, b and c.
 use Rattle.runner.specs.Run.{performed}
 use borrow.Author.Needs.{needs}
 use Rattle.runner.proofs.run.performed.Statement.{statement}
