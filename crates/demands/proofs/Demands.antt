@@ -1,5 +1,6 @@
 -- The statements of specs/Demands, proved.
 use Rattle.demands.specs.Demands.{Demands}
+use Rattle.demands.proofs.Blind.{keeps-blind}
 use Rattle.demands.proofs.Exactly.{exactly, promised-exactly}
 use Rattle.demands.proofs.Given.{refusals}
 use Rattle.demands.proofs.Kept.{keeps-fit, keeps-bounds}
@@ -31,5 +32,6 @@ demands =
       keeps-fit = keeps-fit;
       keeps-bounds = keeps-bounds;
       power-cycle = power-cycle-breaks;
+      keeps-blind = keeps-blind;
       readings = readings;
     }

@@ -1,4 +1,5 @@
 pub mod Answers
+pub mod Blind
 pub mod Bytes
 pub mod Demands
 pub mod Exactly

@@ -2,6 +2,7 @@
 use Prim.Native.Nat.{ℕ, _<_}
 use mathlib.Core.Path.{_≡_}
 use mathlib.Core.Option.{none}
+use Rattle.demands.specs.Blind.{KeepsBlind}
 use Rattle.demands.specs.Calls.{Call, perform}
 use Rattle.demands.specs.Given.{Refusals}
 use Rattle.demands.specs.Kept.{KeepsFit, KeepsBounds, PowerCycleBreaks}
@@ -42,5 +43,7 @@ pub record Demands : Type 1 where
   pub keeps-fit : KeepsFit
   pub keeps-bounds : KeepsBounds
   pub power-cycle : PowerCycleBreaks
+  -- no answer outside the banks depends on a bank byte
+  pub keeps-blind : KeepsBlind
   -- P1 to P13
   pub readings : Readings

@@ -1,3 +1,4 @@
+pub mod Blind
 pub mod Calls
 pub mod Demands
 pub mod Given
