@@ -57,5 +57,9 @@ pub fn same(file: &[u8]) -> Result<usize, String> {
 fn first_difference(rust: &[u8], ours: &[u8]) -> String {
     let same = rust.iter().zip(ours).take_while(|(one, other)| one == other).count();
     let line = rust[..same].iter().filter(|byte| **byte == b'\n').count() + 1;
-    format!("the Rust and ours write different bytes, first in line {line}, at byte {same} of {} and {}", rust.len(), ours.len())
+    format!(
+        "the Rust and ours write different bytes, first in line {line}, at byte {same} of {} and {}",
+        rust.len(),
+        ours.len()
+    )
 }

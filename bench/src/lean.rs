@@ -53,7 +53,8 @@ fn parse(file: &[u8]) -> Option<(Profile, &[u8])> {
         physical_minimum: front[11],
     };
     let count = usize::from(word(front[12], front[13]));
-    let sound = front[0] == 11 && front[5] < 32 && profile.accepted() && count <= 4_096 && steps.len() == count * STEP_LEN;
+    let sound =
+        front[0] == 11 && front[5] < 32 && profile.accepted() && count <= 4_096 && steps.len() == count * STEP_LEN;
     sound.then_some((profile, steps))
 }
 

@@ -114,12 +114,17 @@ fn checked_mix() -> Result<Mix, Trouble> {
 fn repeat(side: &str, work: &str, times: &str) -> Result<(), Trouble> {
     let job = judge::job(side, work).ok_or((2, format!("no side does this work: {side} {work}")))?;
     let (times, mix) = (number(times)?, checked_mix()?);
+    eprintln!("anchor {:x}", bench_anchor as *const () as usize);
     let mut out = vec![0; dali_gear::LINES_MAX];
     for _ in 0..times {
         mix.files.iter().for_each(|file| job(file, &mut out));
     }
     Ok(())
 }
+
+/// Where the program is loaded: bench/where finds the other functions by it.
+#[no_mangle]
+pub extern "C" fn bench_anchor() {}
 
 fn one_session() -> Result<(), Trouble> {
     let (mut file, mut out) = (Vec::with_capacity(dali_gear::FILE_MAX + 1), vec![0; dali_gear::LINES_MAX]);
