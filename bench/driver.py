@@ -1,7 +1,8 @@
-"""What bench/run and bench/where share: the driver that bench/build makes, and how a program for x86-64 is started here."""
+"""What bench/run, bench/where and bench/try share: the driver that bench/build makes, and how a program for x86-64 is started here."""
 import os
 import pathlib
 import platform
+import re
 import shutil
 import subprocess
 
@@ -28,12 +29,18 @@ def needed(program, what):
     return program
 
 
-def kit_loader():
-    """The kit's loader and C library, with which rt's own programs run, and a Rust program under the emulator."""
-    guide = subprocess.run([needed("rt", "with the C library"), "doc"], capture_output=True, text=True)
+def kit():
+    """The kit's folder, and the part of it for this processor."""
+    guide = subprocess.run([needed("rt", "with its kit"), "doc"], capture_output=True, text=True)
     if guide.returncode != 0:
         raise Stop(3, "'rt doc' does not tell where the kit is")
-    lib = pathlib.Path(guide.stdout.strip()).parent.parent / "on" / platform.machine() / "toolchain" / "lib"
+    home = pathlib.Path(guide.stdout.strip()).parent.parent
+    return home, home / "on" / platform.machine()
+
+
+def kit_loader():
+    """The kit's loader and C library, with which rt's own programs run, and a Rust program under the emulator."""
+    lib = kit()[1] / "toolchain" / "lib"
     return [str(lib / "ld-linux-x86-64.so.2"), "--library-path", str(lib)]
 
 
@@ -71,6 +78,14 @@ def done(words, source=None):
 
 def driver(words, source=None):
     return done(start(DRIVER) + words, source).stdout
+
+
+def counted(program, words, source):
+    told = done(start(program, counter()) + words, source).stderr.decode(errors="replace")
+    found = re.search(r"Collected : (\d+)" if NATIVE else r"^instructions (\d+)$", told, re.MULTILINE)
+    if not found:
+        raise Stop(1, f"nothing was counted: {told.strip()}")
+    return int(found[1])
 
 
 def build():
