@@ -1,4 +1,4 @@
-"""What bench/run, bench/where and bench/try share: the driver that bench/build makes, and how a program for x86-64 is started here."""
+"""What bench/run, bench/where and bench/try share: the driver, its mixes, and how a program for x86-64 is started here."""
 import os
 import pathlib
 import platform
@@ -15,6 +15,8 @@ NATIVE = platform.machine() == "x86_64"
 EMULATOR = os.environ.get("EMULATOR") or "/usr/bin/qemu-x86_64"
 # Each work is done so often, and twice as often: the difference has no start in it.
 REPEATS = 4
+# A mix may also be a session of equal steps: kind, a, b and c.
+EQUAL_STEPS = re.compile(r"\d{1,3}(,\d{1,3}){3}")
 
 
 class Stop(Exception):
@@ -94,11 +96,15 @@ def build():
         raise Stop(3 if built.returncode == 3 else 1, built.stderr.strip().removeprefix("bench/build: "))
 
 
+def are_mixes(words):
+    return all(word.isalpha() or EQUAL_STEPS.fullmatch(word) for word in words)
+
+
 def mixes(names):
     """Name, bytes and steps of each. That both sides write the same is seen here, and again in each run."""
     made, known = [], driver(["mix"]).decode().split()
     for name in names:
-        if name not in known:
+        if name not in known and not EQUAL_STEPS.fullmatch(name):
             raise Stop(2, f"no mix is called {name}; there are {', '.join(known)}")
     for name in names or known:
         mix = driver(["mix", name])

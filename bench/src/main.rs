@@ -44,7 +44,8 @@ use std::process::ExitCode;
 const HELP: &str = "\
 bench: the driver of bench/run. A mix is a stream of session files, each with its length before it.
 
-  bench mix NAME               write the mix of this name; 'bench mix' lists the names
+  bench mix NAME               write the mix of this name; 'bench mix' lists the names. Four numbers with commas
+                               between them name a session of 4,096 equal steps
   bench same                   read a mix, see that both sides write the same bytes for each of its files
   bench repeat SIDE WORK N     read a mix, see the same, and let one side do the work N times over the mix
   bench time N                 read a mix, see the same, and time both sides N times in turn
@@ -87,9 +88,9 @@ fn number(word: &str) -> Result<usize, Trouble> {
 }
 
 fn write_mix(name: &str) -> Result<(), Trouble> {
-    let (_, make) = mixes::MIXES.iter().find(|mix| mix.0 == name).ok_or((2, format!("no mix is called {name}")))?;
+    let files = mixes::named(name).ok_or((2, format!("no mix is called {name}")))?;
     let mut out = io::stdout().lock();
-    make().iter().try_for_each(|file| write_frame(&mut out, file)).map_err(|error| (1, error.to_string()))
+    files.iter().try_for_each(|file| write_frame(&mut out, file)).map_err(|error| (1, error.to_string()))
 }
 
 struct Mix {

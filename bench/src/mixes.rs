@@ -19,6 +19,16 @@ pub const MIXES: &[(&str, fn() -> Files)] = &[
     ("generator", generator),
 ];
 
+/// The mix of a name. Four numbers, as in '0,128,0,0', name a session of equal steps: kind, a, b and c.
+pub fn named(name: &str) -> Option<Files> {
+    if let Some((_, make)) = MIXES.iter().find(|mix| mix.0 == name) {
+        return Some(make());
+    }
+    let numbers: Option<Vec<u8>> = name.split(',').map(|word| word.parse().ok()).collect();
+    let step: [u8; STEP_LEN] = numbers?.try_into().ok()?;
+    Some(vec![file(0, |_| step)])
+}
+
 /// How many of the generator's files go into its mix: each has a profile of its own.
 const GENERATED: usize = 8;
 
@@ -31,7 +41,7 @@ fn generator() -> Files {
 }
 
 /// A lamp of types 6 and 8 with every capability, and steps drawn one by one.
-fn file(seed: u64, step: fn(&mut Chance) -> [u8; STEP_LEN]) -> Vec<u8> {
+fn file(seed: u64, step: impl Fn(&mut Chance) -> [u8; STEP_LEN]) -> Vec<u8> {
     let mut chance = Chance::new(seed);
     let profile = Profile { flags: FLAG_TC | FLAG_XY, channels: 4, ..Profile::of(&[6, 8]) };
     let mut bytes = vec![profile.type_count];
