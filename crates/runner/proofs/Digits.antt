@@ -1,30 +1,63 @@
--- The digits of a number: one at a time from its end, how many there are, and that they say the number.
+-- The digits of a number: each of them, how many there are, and that they say the number.
 use Prim.Native.Nat.{ℕ, zero, suc, _+_, _-_, _*_, _/_, _%_, _^_, _≤_, _<_}
 use native.Mathlib.Nat.{pow-suc, div-lt-iff-lt-mul, div-add-mod'}
 use native.Mathlib.Omega.{arith}
-use mathlib.Core.Path.{_≡_, refl, ap}
+use mathlib.Core.Path.{_≡_, refl, ap, ap₂, _∙_}
 use mathlib.Core.List.{List, [], _∷_, _++_}
 use lib.Dec.{ltb}
 use lib.ListN.{length, getD, length-append, List·getD-append}
-use borrow.Author.Tests.{lt-ltb, le-ltb, ltb-false}
-use Rattle.runner.specs.Line.{digit, digits}
+use borrow.Author.Tests.{lt-ltb, le-ltb, ltb-false, ltb-true}
+use Rattle.runner.specs.Line.{digit, digits, lastTwo}
 use Rattle.numbers.proofs.Logic.{by-cases}
-
-pub digits-none : (most n : ℕ) → most ≡ 0 → digits most n ≡ []
-unfolding digits
-digits-none most n e = rw e
 
 pub digits-one : (most n : ℕ) → 0 < most → n < 10 → digits most n ≡ digit n ∷ []
 unfolding digits
 digits-one zero n h small = absurd (omega arith)
 digits-one (suc most) n h small = rw (lt-ltb n 10 small)
 
-pub digits-more : (most n : ℕ) → 0 < most → 10 ≤ n → digits most n ≡ digits (most - 1) (n / 10) ++ (digit (n % 10) ∷ [])
+-- ## A number of so many digits
+
+pub of-two : (n : ℕ) → 10 ≤ n → n < 100 → digits 5 n ≡ lastTwo n
 unfolding digits
-digits-more zero n h large = absurd (omega arith)
-digits-more (suc most) n h large =
-    let less : most ≡ suc most - 1 = omega arith in
-    rw (le-ltb n 10 large) (ap (λ k. digits k (n / 10) ++ (digit (n % 10) ∷ [])) less)
+of-two n h l =
+    let one : n / 10 ≡ n / 10 % 10 = omega arith in
+    rw (le-ltb n 10 h, lt-ltb (n / 10) 10 (omega arith)) (ap (λ d. digit d ∷ digit (n % 10) ∷ []) one)
+
+pub of-three : (n : ℕ) → 100 ≤ n → n < 1000 → digits 5 n ≡ digit (n / 100 % 10) ∷ lastTwo n
+unfolding digits
+of-three n h l =
+    let one : n / 10 / 10 ≡ n / 100 % 10 = omega arith in
+    rw (le-ltb n 10 (omega arith), le-ltb (n / 10) 10 (omega arith), lt-ltb (n / 10 / 10) 10 (omega arith))
+    (ap (λ d. digit d ∷ lastTwo n) one)
+
+pub of-four : (n : ℕ) → 1000 ≤ n → n < 10000 → digits 5 n ≡ digit (n / 1000 % 10) ∷ digit (n / 100 % 10) ∷ lastTwo n
+unfolding digits
+of-four n h l =
+    let one : n / 10 / 10 / 10 ≡ n / 1000 % 10 = omega arith in
+    let two : n / 10 / 10 % 10 ≡ n / 100 % 10 = omega arith in
+    rw (le-ltb n 10 (omega arith), le-ltb (n / 10) 10 (omega arith), le-ltb (n / 10 / 10) 10 (omega arith), lt-ltb (n / 10 / 10 / 10) 10 (omega arith))
+    (ap₂ (λ d e. digit d ∷ digit e ∷ lastTwo n) one two)
+
+-- the first of five digits, or of more
+first-of-five : (n : ℕ) → digits 1 (n / 10 / 10 / 10 / 10) ≡ digit (n / 10000 % 10) ∷ []
+unfolding digits
+first-of-five n =
+    let more : n / 10 / 10 / 10 / 10 % 10 ≡ n / 10000 % 10 = omega arith in
+    by-cases (ltb (n / 10 / 10 / 10 / 10) 10)
+    (λ one.
+    let small = ltb-true (n / 10 / 10 / 10 / 10) 10 one in
+    let same : n / 10 / 10 / 10 / 10 ≡ n / 10000 % 10 = omega arith in
+    rw one (ap (λ d. digit d ∷ []) same))
+    (λ many. rw many (ap (λ d. digit d ∷ []) more))
+
+pub of-five : (n : ℕ) → 10000 ≤ n → digits 5 n ≡ digit (n / 10000 % 10) ∷ digit (n / 1000 % 10) ∷ digit (n / 100 % 10) ∷ lastTwo n
+unfolding digits
+of-five n h =
+    let one : n / 10 / 10 / 10 % 10 ≡ n / 1000 % 10 = omega arith in
+    let two : n / 10 / 10 % 10 ≡ n / 100 % 10 = omega arith in
+    rw (le-ltb n 10 (omega arith), le-ltb (n / 10) 10 (omega arith), le-ltb (n / 10 / 10) 10 (omega arith), le-ltb (n / 10 / 10 / 10) 10 (omega arith))
+    (ap (λ ds. (((ds ++ (digit (n / 10 / 10 / 10 % 10) ∷ [])) ++ (digit (n / 10 / 10 % 10) ∷ [])) ++ (digit (n / 10 % 10) ∷ [])) ++ (digit (n % 10) ∷ [])) (first-of-five n) ∙
+    ap₂ (λ d e. digit (n / 10000 % 10) ∷ digit d ∷ digit e ∷ lastTwo n) one two)
 
 -- ## How many
 

@@ -3,10 +3,10 @@ use gear::answer::Answer;
 use gear::answer::Refusal;
 ghost use mathlib.Core.Path.{_≡_};
 ghost use mathlib.Core.List.{[], _∷_, _++_};
-ghost use Prim.Native.Nat.{_+_, _≤_, _<_};
+ghost use Prim.Native.Nat.{_+_, _≤_, _<_, _/_, _%_};
 ghost use lib.ListN.{length};
 ghost use Rattle.gear.specs.Answer.{refusalNumber};
-ghost use Rattle.runner.specs.Line.{digit, digits, numberText, answerText, lineText, endText, badText, Wrote};
+ghost use Rattle.runner.specs.Line.{digit, digits, lastTwo, numberText, answerText, lineText, endText, badText, Wrote};
 
 const SPACE: u8 = 32;
 
@@ -28,30 +28,65 @@ fn digit(n: usize) -> u8
     (48 + n) as u8
 }
 
-// The last `most` digits of a number, without leading zeros.
-fn put_digits(buf: &mut [u8], at: usize, n: usize, most: usize) -> usize
-    requires { ⌜ at + length (digits most n) ≤ length (now buf) ⌝ }
-    ensures { λ r. ⌜ Wrote (now (buf .entry)) at (digits most n) (now (buf .exit)) r ⌝ }
+// The last two digits of a number; below, its last three, four and five.
+fn put_two(buf: &mut [u8], at: usize, n: usize) -> usize
+    requires { ⌜ at + 2 ≤ length (now buf) ⌝ }
+    ensures { λ r. ⌜ Wrote (now (buf .entry)) at (lastTwo n) (now (buf .exit)) r ⌝ }
 {
-    if most == 0 {
-        return at;
-    }
-    if n < 10 {
-        return put(buf, at, digit(n));
-    }
-    let next = put_digits(buf, at, n / 10, most - 1);
+    let next = put(buf, at, digit(n / 10 % 10));
     put(buf, next, digit(n % 10))
 }
 
-// No number here has more digits.
-const MOST: usize = 5;
+fn put_three(buf: &mut [u8], at: usize, n: usize) -> usize
+    requires { ⌜ at + 3 ≤ length (now buf) ⌝ }
+    ensures { λ r. ⌜ Wrote (now (buf .entry)) at (digit (n / 100 % 10) ∷ lastTwo n) (now (buf .exit)) r ⌝ }
+{
+    let next = put(buf, at, digit(n / 100 % 10));
+    put_two(buf, next, n)
+}
+
+fn put_four(buf: &mut [u8], at: usize, n: usize) -> usize
+    requires { ⌜ at + 4 ≤ length (now buf) ⌝ }
+    ensures { λ r. ⌜ Wrote (now (buf .entry)) at (digit (n / 1000 % 10) ∷ digit (n / 100 % 10) ∷ lastTwo n) (now (buf .exit)) r ⌝ }
+{
+    let next = put(buf, at, digit(n / 1000 % 10));
+    put_three(buf, next, n)
+}
+
+fn put_five(buf: &mut [u8], at: usize, n: usize) -> usize
+    requires { ⌜ at + 5 ≤ length (now buf) ⌝ }
+    ensures { λ r. ⌜ Wrote (now (buf .entry)) at (digit (n / 10000 % 10) ∷ digit (n / 1000 % 10) ∷ digit (n / 100 % 10) ∷ lastTwo n) (now (buf .exit)) r ⌝ }
+{
+    let next = put(buf, at, digit(n / 10000 % 10));
+    put_four(buf, next, n)
+}
+
+// A number below 100,000, as all numbers here are, without leading zeros.
+fn put_digits(buf: &mut [u8], at: usize, n: usize) -> usize
+    requires { ⌜ at + length (digits 5 n) ≤ length (now buf) ⌝ }
+    ensures { λ r. ⌜ Wrote (now (buf .entry)) at (digits 5 n) (now (buf .exit)) r ⌝ }
+{
+    if n < 10 {
+        return put(buf, at, digit(n));
+    }
+    if n < 100 {
+        return put_two(buf, at, n);
+    }
+    if n < 1000 {
+        return put_three(buf, at, n);
+    }
+    if n < 10000 {
+        return put_four(buf, at, n);
+    }
+    put_five(buf, at, n)
+}
 
 // A number, and the byte behind it.
 fn put_number(buf: &mut [u8], at: usize, n: usize, behind: u8) -> usize
     requires { ⌜ at + length (numberText n behind) ≤ length (now buf) ⌝ }
     ensures { λ r. ⌜ Wrote (now (buf .entry)) at (numberText n behind) (now (buf .exit)) r ⌝ }
 {
-    let next = put_digits(buf, at, n, MOST);
+    let next = put_digits(buf, at, n);
     put(buf, next, behind)
 }
 
@@ -62,7 +97,7 @@ fn put_refusal(buf: &mut [u8], at: usize, refusal: Refusal) -> usize
 {
     let number = refusal.number();
     let next = put(buf, at, b'!');
-    put_digits(buf, next, number as usize, MOST)
+    put_digits(buf, next, number as usize)
 }
 
 fn put_answer(buf: &mut [u8], at: usize, answer: Answer) -> usize
@@ -71,7 +106,7 @@ fn put_answer(buf: &mut [u8], at: usize, answer: Answer) -> usize
 {
     match answer {
         Answer::Done => put(buf, at, b'.'),
-        Answer::Value(value) => put_digits(buf, at, value as usize, MOST),
+        Answer::Value(value) => put_digits(buf, at, value as usize),
         Answer::Nothing => put(buf, at, b'-'),
         Answer::Refused(refusal) => put_refusal(buf, at, refusal),
     }

@@ -1,0 +1,29 @@
+-- `line::put_three` meets its contract: the first digit, and the others right behind it.
+use native.Mathlib.Omega.{arith}
+use Rattle.runner.proofs.Written.{wrote-behind}
+use borrow.Author.Needs.{needs}
+use Rattle.runner.proofs.line.put_three.Statement.{statement}
+use Rattle.runner.proofs.line.put_three.Tie as tie
+
+digit-requires : tie.Need-digit-requires
+digit-requires c κs = search needs
+
+put-requires : tie.Need-put-requires
+put-requires c κs = search needs
+
+put-two-requires : tie.Need-put-two-requires
+put-two-requires c κs = search needs
+
+same-length : tie.Need-same-length
+same-length c = search needs
+
+returns : tie.Need-returns
+returns c =
+    let others = c .before .before in
+    let first = others .before .before .before .before in
+    let start = first .before .before .before .before in
+    wrote-behind (omega (arith, start .pre)) (rw (first .before .digit .ensures) at (first .put .ensures)) (others .put-two .ensures)
+
+pub put-three-spec : {M : Type 1} → statement M
+put-three-spec =
+    tie.close (tie.spec digit-requires put-requires put-two-requires same-length returns)
