@@ -4,15 +4,13 @@ use mathlib.Core.Bool.{Bool}
 use Rattle.colour.specs.Activation.{activate, automatic}
 use Rattle.colour.specs.declared.record.Colour.{Colour}
 use Rattle.colour.specs.declared.setting.ColourSetting.{ColourSetting}
-use Rattle.colour.specs.declared.value.ColourValue.{ColourValue}
-use Rattle.colour.specs.declared.value.ColourValue.the-variants.{Value as Shown, Nothing as Hidden}
 use Rattle.colour.specs.Record.{withFeatures}
 use Rattle.colour.specs.Staging.{copyReport, loadTemporariesFrom}
 use Rattle.colour.specs.Steps.{storeTcLimit, tcStep, xyStep}
 use Rattle.colour.specs.Value.{colorValue, colourStatus, controlByte, features}
-use Rattle.gear.specs.Answer.{done, flag}
+use Rattle.gear.specs.Answer.{done, flag, valueAnswer}
 use Rattle.gear.specs.declared.answer.Answer.{Answer}
-use Rattle.gear.specs.declared.answer.Answer.the-variants.{Value, Nothing}
+use Rattle.gear.specs.declared.answer.Answer.the-variants.{Value}
 use Rattle.gear.specs.declared.answer.Outcome.{Outcome}
 use Rattle.gear.specs.declared.record.Gear.{Gear}
 use Rattle.gear.specs.Serve.{serve, tell}
@@ -44,11 +42,6 @@ copyReportCall g = recoloured g (copyReport (g .colour))
 
 unfoldable pub setFeaturesCall : Gear → ℕ → Outcome
 setFeaturesCall g f = recoloured g (withFeatures (g .colour) f)
-
--- what the gear lacks is no value, and no refusal
-unfoldable pub valueAnswer : ColourValue → Answer
-valueAnswer (Shown v) = Value v
-valueAnswer Hidden = Nothing
 
 unfoldable pub colorValueCall : Gear → ℕ → Answer
 colorValueCall g id = tell g (valueAnswer (colorValue (g .colour) id))

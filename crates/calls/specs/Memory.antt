@@ -1,21 +1,15 @@
 -- Memory calls on a record: bank's rules under the fit test.
 use Prim.Native.Nat.{ℕ}
 use Rattle.bank.specs.declared.build.Banks.{Banks}
-use Rattle.bank.specs.declared.memory.Location.{Location}
-use Rattle.bank.specs.declared.memory.Location.the-variants.{Byte, Nothing as Unread}
 use Rattle.bank.specs.declared.memory.Written.{Written}
 use Rattle.bank.specs.Memory.{memoryLocation, writeMemoryLocation, advancesDtr0Past, implementsBank}
 use Rattle.bank.specs.Setters.{setBank1LockByte, setBank1Location, setLogicalGearUnit, setBank0LastOffset, clearIdentificationNumber}
-use Rattle.gear.specs.Answer.{flag}
+use Rattle.gear.specs.Answer.{flag, locationAnswer}
 use Rattle.gear.specs.declared.answer.Answer.{Answer}
-use Rattle.gear.specs.declared.answer.Answer.the-variants.{Done, Value, Nothing}
+use Rattle.gear.specs.declared.answer.Answer.the-variants.{Done}
 use Rattle.gear.specs.declared.answer.Outcome.{Outcome}
 use Rattle.gear.specs.declared.record.Gear.{Gear}
 use Rattle.gear.specs.Serve.{serve, tell}
-
-unfoldable pub locationAnswer : Location → Answer
-locationAnswer (Byte b) = Value b
-locationAnswer Unread = Nothing
 
 abbrev pub withBanks : Gear → Banks → Gear
 withBanks g b =

@@ -8,7 +8,6 @@ use colour::staging::load_temporaries_from as load;
 use colour::steps::store_tc_limit as store;
 use colour::steps::tc_step as step_tc;
 use colour::steps::xy_step as step_xy;
-use colour::value::ColourValue;
 use colour::value::color_value as value_of;
 use colour::value::dt8_colour_status as status_of;
 use colour::value::dt8_features as features_of;
@@ -20,10 +19,11 @@ use gear::answer::Refusal;
 use gear::answer::done;
 use gear::answer::flag;
 use gear::answer::refused;
+use gear::answer::value_answer;
 use gear::record::Gear;
 use gear::serve::tell;
 ghost use mathlib.Core.Path.{_≡_};
-ghost use Rattle.calls.specs.Colours.{recoloured, valueAnswer, tcStepCall, xyStepCall, storeTcLimitCall, stageCall, activateCall, copyReportCall, setFeaturesCall, colorValueCall, colourStatusCall, featuresCall, controlCall, featureByteCall, automaticCall};
+ghost use Rattle.calls.specs.Colours.{recoloured, tcStepCall, xyStepCall, storeTcLimitCall, stageCall, activateCall, copyReportCall, setFeaturesCall, colorValueCall, colourStatusCall, featuresCall, controlCall, featureByteCall, automaticCall};
 
 // The record with another colour, if it is fit.
 fn recoloured(gear: Gear, colour: Colour) -> Outcome
@@ -86,15 +86,6 @@ pub fn set_gear_features(gear: Gear, features: u8) -> Outcome
 {
     let colour = gear.colour;
     recoloured(gear, colour.with_features(features))
-}
-
-fn value_answer(value: ColourValue) -> Answer
-    ensures { λ r. ⌜ r ≡ valueAnswer value ⌝ }
-{
-    match value {
-        ColourValue::Value(number) => Answer::Value(number),
-        ColourValue::Nothing => Answer::Nothing,
-    }
 }
 
 pub fn color_value(gear: Gear, id: u8) -> Answer

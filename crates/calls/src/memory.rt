@@ -1,6 +1,5 @@
 // Memory calls: those of the bank library, under the fit test.
 use bank::build::Banks;
-use bank::memory::Location;
 use bank::memory::advances_dtr0_past as advances;
 use bank::memory::implements_bank as implements;
 use bank::memory::memory_location as location;
@@ -15,20 +14,12 @@ use gear::answer::Outcome;
 use gear::answer::Refusal;
 use gear::answer::done;
 use gear::answer::flag;
+use gear::answer::location_answer;
 use gear::answer::refused;
 use gear::record::Gear;
 use gear::serve::tell;
 ghost use mathlib.Core.Path.{_≡_};
-ghost use Rattle.calls.specs.Memory.{locationAnswer, rebanked, memoryLocationCall, writeMemoryCall, advancesCall, implementsCall, setLockCall, setLocationCall, setUnitCall, setLastCall, clearNumberCall};
-
-fn location_answer(found: Location) -> Answer
-    ensures { λ r. ⌜ r ≡ locationAnswer found ⌝ }
-{
-    match found {
-        Location::Byte(byte) => Answer::Value(byte as u16),
-        Location::Nothing => Answer::Nothing,
-    }
-}
+ghost use Rattle.calls.specs.Memory.{rebanked, memoryLocationCall, writeMemoryCall, advancesCall, implementsCall, setLockCall, setLocationCall, setUnitCall, setLastCall, clearNumberCall};
 
 // The record with other banks, if it is fit.
 fn rebanked(gear: Gear, answer: Answer, banks: Banks) -> Outcome

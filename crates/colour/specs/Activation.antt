@@ -1,6 +1,6 @@
 -- Activating the staged colour (part 209, 9.12.5).
 use Prim.Native.Nat.{ℕ, _*_, _/_, _%_}
-use mathlib.Core.Bool.{Bool, not}
+use mathlib.Core.Bool.{Bool, true, false, not}
 use lib.Dec.{eqb}
 use Rattle.colour.specs.declared.limits.Limits.{Limits}
 use Rattle.colour.specs.declared.record.Colour.{Colour}
@@ -10,7 +10,7 @@ use Rattle.colour.specs.declared.tint.ColorMode.the-variants.{None, Cct,
 use Rattle.colour.specs.Limits.{effectiveCoolest, effectiveWarmest}
 use Rattle.numbers.specs.Numbers.{pick, clampTo}
 use Rattle.colour.specs.Staging.{loadTemporariesFrom}
-use Rattle.colour.specs.Tint.{byMode, isCct, unstaged}
+use Rattle.colour.specs.Tint.{byMode, isCct, isLit, unstaged}
 
 -- the control without its six channel bits
 unfoldable pub unlinked : ℕ → ℕ
@@ -56,6 +56,10 @@ activate c =
 -- bit 0 of the gear features
 unfoldable pub automatic : Colour → Bool
 automatic c = eqb (c .features % 2) 1
+
+-- arc power changes nothing: it does not activate, or no mode is staged and the staged control is masked already
+unfoldable pub isIdle : Colour → Bool
+isIdle c = pick (automatic c) (pick (isLit (c .pending .mode)) false (eqb (c .pending .control) 0xFF)) true
 
 unfoldable pub arcPower : Colour → Colour
 arcPower c = pick (automatic c) (activate c) c

@@ -7,7 +7,7 @@ use crate::tint::ColorMode;
 use crate::tint::Tint;
 use numbers::word::clamp;
 ghost use mathlib.Core.Path.{_≡_};
-ghost use Rattle.colour.specs.Activation.{unlinked, chosen, activated, strays, activate, automatic, arcPower, recall};
+ghost use Rattle.colour.specs.Activation.{unlinked, chosen, activated, strays, activate, automatic, isIdle, arcPower, recall};
 
 // The control with no channel linked.
 fn unlinked(control: u8) -> u8
@@ -98,15 +98,27 @@ pub fn automatic_activation(colour: Colour) -> bool
     colour.features % 2 == 1
 }
 
+// No change to come: automatic activation is off, or no mode is staged and the staged control is the mask already.
+fn is_idle(colour: Colour) -> bool
+    ensures { λ r. ⌜ r ≡ isIdle colour ⌝ }
+{
+    if automatic_activation(colour) {
+        if colour.pending.is_lit() {
+            return false;
+        }
+        return colour.pending.control == ColourSetting::CONTROL_MASK;
+    }
+    true
+}
+
 // Part 209, 9.12.5: a change of arc power activates what is staged, where automatic activation is on.
 pub fn arc_power_activation(colour: Colour) -> Colour
     ensures { λ r. ⌜ r ≡ arcPower colour ⌝ }
 {
-    if automatic_activation(colour) {
-        activate_pending_color(colour)
-    } else {
-        colour
+    if is_idle(colour) {
+        return colour;
     }
+    activate_pending_color(colour)
 }
 
 // Part 209, 9.11.4: recalling a scene stages its colour, unless it has none, and activates it where that is automatic.

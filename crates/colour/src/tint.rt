@@ -115,7 +115,7 @@ impl Tint {
     }
 
     // The mode's own numbers, every other one masked.
-    pub(crate) fn captured(self) -> ColourSetting
+    pub fn captured(self) -> ColourSetting
         ensures { λ r. ⌜ r ≡ captured self ⌝ }
     {
         let mode = self.mode;

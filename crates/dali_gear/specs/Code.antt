@@ -3,8 +3,8 @@ use Prim.Native.Nat.{ℕ}
 use Rattle.gear.specs.Answer.{refusalNumber}
 use Rattle.gear.specs.declared.answer.Answer.{Answer}
 use Rattle.gear.specs.declared.answer.Answer.the-variants.{Done, Value, Nothing, Refused}
-use Rattle.runner.specs.declared.file.Verdict.{Verdict}
-use Rattle.runner.specs.declared.file.Verdict.the-variants.{Good, Bad}
+use Rattle.file.specs.declared.Verdict.{Verdict}
+use Rattle.file.specs.declared.Verdict.the-variants.{Good, Bad}
 use Rattle.runner.specs.declared.run.Ran.{Ran}
 use Rattle.runner.specs.declared.run.Ran.the-variants.{Lines, Malformed, Short}
 

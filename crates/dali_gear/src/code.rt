@@ -1,6 +1,6 @@
 // Answers as two numbers, a code and its detail. The codes 1 to 5 are document 01's refusals.
+use file::Verdict;
 use gear::answer::Answer;
-use runner::file::Verdict;
 use runner::run::Ran;
 ghost use mathlib.Core.Path.{_≡_};
 ghost use Rattle.dali_gear.specs.Code.{answerCode, answerDetail, ranCode, ranDetail, verdictCode, verdictDetail};

@@ -11,7 +11,7 @@ ghost use mathlib.Core.Path.{_≡_};
 ghost use lib.ListN.{length};
 ghost use Rattle.dali_gear.specs.Code.{answerCode, answerDetail, ranCode, ranDetail, verdictCode, verdictDetail};
 ghost use Rattle.runner.specs.Ask.{asked};
-ghost use Rattle.runner.specs.File.{checked};
+ghost use Rattle.file.specs.File.{checked};
 ghost use Rattle.runner.specs.Run.{ran, ranInto, reported, reportedInto, room};
 
 // Judges a file. The detail is the offset of its lowest fault.
@@ -20,7 +20,7 @@ pub extern "C" fn dali_gear_check(file: &[u8], detail: &mut usize) -> u32
     ensures code { λ r. ⌜ r ≡ verdictCode (checked (now (file .entry))) ⌝ }
     ensures detail { λ _. ⌜ now (detail .exit) ≡ verdictDetail (checked (now (file .entry))) ⌝ }
 {
-    let verdict = runner::file::check(file);
+    let verdict = file::check(file);
     *detail = verdict_detail(verdict);
     verdict_code(verdict)
 }

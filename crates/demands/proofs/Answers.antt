@@ -11,14 +11,12 @@ use Rattle.demands.proofs.Bytes.{write-listed, write-high, command-high
 use Rattle.bank.specs.declared.memory.Location.{Location}
 use Rattle.bank.specs.declared.memory.Location.the-variants.{Byte as Found, Nothing as Unread}
 use Rattle.calls.specs.Address.{beyond, judged, matching}
-use Rattle.calls.specs.Colours.{valueAnswer}
 use Rattle.calls.specs.declared.address.Address.{Address}
 use Rattle.calls.specs.declared.address.Address.the-variants.{Short, Group, Broadcast, Unaddressed}
-use Rattle.calls.specs.Memory.{locationAnswer}
 use Rattle.calls.specs.Pairing.{hear, heardAnswer, waits}
 use Rattle.colour.specs.declared.value.ColourValue.{ColourValue}
 use Rattle.colour.specs.declared.value.ColourValue.the-variants.{Value as Shown, Nothing as Hidden}
-use Rattle.gear.specs.Answer.{flag, refused}
+use Rattle.gear.specs.Answer.{flag, locationAnswer, refused, valueAnswer}
 use Rattle.gear.specs.declared.answer.Answer.{Answer}
 use Rattle.gear.specs.declared.answer.Answer.the-variants.{Done, Value, Nothing}
 use Rattle.gear.specs.declared.answer.Refusal.the-variants.{Byte}

@@ -11,11 +11,13 @@ pub mod OutcomesBank
 pub mod OutcomesCalls
 pub mod OutcomesColour
 pub mod OutcomesDaliGear
+pub mod OutcomesFile
 pub mod OutcomesGear
 pub mod OutcomesLevel
 pub mod OutcomesNumbers
 pub mod OutcomesQuery
 pub mod OutcomesRunner
+pub mod OutcomesStep
 pub mod PowerCycle
 pub mod ProfileAndFile
 pub mod Promises

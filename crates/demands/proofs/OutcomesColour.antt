@@ -7,6 +7,7 @@ use Rattle.colour.proofs.report
 use Rattle.colour.proofs.setting
 use Rattle.colour.proofs.staging
 use Rattle.colour.proofs.steps
+use Rattle.colour.proofs.tint
 use Rattle.colour.proofs.value
 
 pub «activation::activate_pending_color» : OneOutcome activation.activate_pending_color.Reads.Post
@@ -36,9 +37,6 @@ pub «record::Colour::with_features» : OneOutcome record.Colour.with_features.R
 pub «record::Colour::fit» : OneOutcome record.Colour.fit.Reads.Post
 «record::Colour::fit» κs args r r′ e e′ = determined
 
-pub «report::load_report_from_actual» : OneOutcome report.load_report_from_actual.Reads.Post
-«report::load_report_from_actual» κs args r r′ e e′ = determined
-
 pub «report::load_report_from» : OneOutcome report.load_report_from.Reads.Post
 «report::load_report_from» κs args r r′ e e′ = determined
 
@@ -65,6 +63,9 @@ pub «steps::xy_step» : OneOutcome steps.xy_step.Reads.Post
 
 pub «steps::store_tc_limit» : OneOutcome steps.store_tc_limit.Reads.Post
 «steps::store_tc_limit» κs args r r′ e e′ = determined
+
+pub «tint::Tint::captured» : OneOutcome tint.Tint.captured.Reads.Post
+«tint::Tint::captured» κs args r r′ e e′ = determined
 
 pub «value::color_value» : OneOutcome value.color_value.Reads.Post
 «value::color_value» κs args r r′ e e′ = determined

@@ -2,7 +2,9 @@
 use Rattle.demands.specs.Outcome.{OneOutcome}
 use Rattle.demands.proofs.Outcome.{determined}
 use Rattle.gear.proofs.answer
+use Rattle.gear.proofs.command
 use Rattle.gear.proofs.marks
+use Rattle.gear.proofs.parts
 use Rattle.gear.proofs.profile
 use Rattle.gear.proofs.record
 use Rattle.gear.proofs.scene
@@ -21,6 +23,27 @@ pub «answer::done» : OneOutcome answer.done.Reads.Post
 pub «answer::refused» : OneOutcome answer.refused.Reads.Post
 «answer::refused» κs args r r′ e e′ = determined
 
+pub «answer::value_answer» : OneOutcome answer.value_answer.Reads.Post
+«answer::value_answer» κs args r r′ e e′ = determined
+
+pub «answer::location_answer» : OneOutcome answer.location_answer.Reads.Post
+«answer::location_answer» κs args r r′ e e′ = determined
+
+pub «command::command_of» : OneOutcome command.command_of.Reads.Post
+«command::command_of» κs args r r′ e e′ = determined
+
+pub «marks::Marks::asked» : OneOutcome marks.Marks.asked.Reads.Post
+«marks::Marks::asked» κs args r r′ e e′ = determined
+
+pub «marks::Marks::configured» : OneOutcome marks.Marks.configured.Reads.Post
+«marks::Marks::configured» κs args r r′ e e′ = determined
+
+pub «marks::Marks::identified» : OneOutcome marks.Marks.identified.Reads.Post
+«marks::Marks::identified» κs args r r′ e e′ = determined
+
+pub «marks::Marks::enabled» : OneOutcome marks.Marks.enabled.Reads.Post
+«marks::Marks::enabled» κs args r r′ e e′ = determined
+
 pub «marks::Marks::with_walk» : OneOutcome marks.Marks.with_walk.Reads.Post
 «marks::Marks::with_walk» κs args r r′ e e′ = determined
 
@@ -29,6 +52,18 @@ pub «marks::Marks::with_pair» : OneOutcome marks.Marks.with_pair.Reads.Post
 
 pub «marks::Marks::power_up» : OneOutcome marks.Marks.power_up.Reads.Post
 «marks::Marks::power_up» κs args r r′ e e′ = determined
+
+pub «parts::keeps_identify» : OneOutcome parts.keeps_identify.Reads.Post
+«parts::keeps_identify» κs args r r′ e e′ = determined
+
+pub «parts::recalled_levels» : OneOutcome parts.recalled_levels.Reads.Post
+«parts::recalled_levels» κs args r r′ e e′ = determined
+
+pub «parts::set_min» : OneOutcome parts.set_min.Reads.Post
+«parts::set_min» κs args r r′ e e′ = determined
+
+pub «parts::extended_fade» : OneOutcome parts.extended_fade.Reads.Post
+«parts::extended_fade» κs args r r′ e e′ = determined
 
 pub «profile::Unit::is_type» : OneOutcome profile.Unit.is_type.Reads.Post
 «profile::Unit::is_type» κs args r r′ e e′ = determined
@@ -50,6 +85,9 @@ pub «record::Gear::new» : OneOutcome record.Gear.new.Reads.Post
 
 pub «record::Gear::fit» : OneOutcome record.Gear.fit.Reads.Post
 «record::Gear::fit» κs args r r′ e e′ = determined
+
+pub «record::Gear::reset_gear» : OneOutcome record.Gear.reset_gear.Reads.Post
+«record::Gear::reset_gear» κs args r r′ e e′ = determined
 
 pub «scene::level_at» : OneOutcome scene.level_at.Reads.Post
 «scene::level_at» κs args r r′ e e′ = determined

@@ -2,12 +2,23 @@
 use Rattle.demands.specs.Outcome.{OneOutcome}
 use Rattle.demands.proofs.Outcome.{determined}
 use Rattle.query.proofs.bits
+use Rattle.query.proofs.heard
 use Rattle.query.proofs.lamp
 use Rattle.query.proofs.reply
 use Rattle.query.proofs.status
+use Rattle.query.proofs.told
 
 pub «bits::eight» : OneOutcome bits.eight.Reads.Post
 «bits::eight» κs args r r′ e e′ = determined
+
+pub «heard::walked» : OneOutcome heard.walked.Reads.Post
+«heard::walked» κs args r r′ e e′ = determined
+
+pub «heard::reports» : OneOutcome heard.reports.Reads.Post
+«heard::reports» κs args r r′ e e′ = determined
+
+pub «heard::shown» : OneOutcome heard.shown.Reads.Post
+«heard::shown» κs args r r′ e e′ = determined
 
 pub «lamp::thermal_shut_down» : OneOutcome lamp.thermal_shut_down.Reads.Post
 «lamp::thermal_shut_down» κs args r r′ e e′ = determined
@@ -29,3 +40,6 @@ pub «status::is_missing» : OneOutcome status.is_missing.Reads.Post
 
 pub «status::status_byte» : OneOutcome status.status_byte.Reads.Post
 «status::status_byte» κs args r r′ e e′ = determined
+
+pub «told::query_answer» : OneOutcome told.query_answer.Reads.Post
+«told::query_answer» κs args r r′ e e′ = determined

@@ -1,30 +1,12 @@
 -- One outcome of every public function of runner, by its own promise (`Post`, the function's `ensures`).
--- A section is a part of the lent file, a reference: its bytes (`now`) are the outcome, since a promise can't say which of several places
--- with the same bytes is shown. `run` and `report` write to a lent buffer too: what it holds at exit is an outcome besides.
+-- `run` and `report` write to a lent buffer too: what it holds at exit is an outcome besides.
 use Rattle.demands.specs.Outcome.{OneOutcome, OneSeen}
 use Rattle.demands.proofs.Outcome.{determined}
 use Rattle.runner.proofs.ask
-use Rattle.runner.proofs.file
 use Rattle.runner.proofs.run
-use Rattle.runner.proofs.step
 
 pub «ask::ask» : OneOutcome ask.ask.Reads.Post
 «ask::ask» κs args r r′ e e′ = determined
-
-pub «file::check» : OneOutcome file.check.Reads.Post
-«file::check» κs args r r′ e e′ = determined
-
-pub «file::types» : OneSeen (λ κs r e. r .now) file.types.Reads.Post
-«file::types» κs args r r′ e e′ = determined
-
-pub «file::profile» : OneSeen (λ κs r e. r .now) file.profile.Reads.Post
-«file::profile» κs args r r′ e e′ = determined
-
-pub «file::steps» : OneSeen (λ κs r e. r .now) file.steps.Reads.Post
-«file::steps» κs args r r′ e e′ = determined
-
-pub «file::profile_of» : OneOutcome file.profile_of.Reads.Post
-«file::profile_of» κs args r r′ e e′ = determined
 
 pub «run::room» : OneOutcome run.room.Reads.Post
 «run::room» κs args r r′ e e′ = determined
@@ -40,6 +22,3 @@ pub «run::report» : OneOutcome run.report.Reads.Post
 
 pub «run::report-out» : OneSeen (λ κs r e. e .1 .0 .now) run.report.Reads.Post
 «run::report-out» κs args r r′ e e′ p q = determined (p .1 .0) (q .1 .0)
-
-pub «step::step» : OneOutcome step.step.Reads.Post
-«step::step» κs args r r′ e e′ = determined

@@ -14,13 +14,13 @@ use Rattle.gear.specs.Profile.{accepted}
 use Rattle.gear.specs.Record.{newGear}
 use Rattle.gear.proofs.Built.{none-unfit}
 use Rattle.numbers.proofs.Logic.{by-cases, no-false}
-use Rattle.runner.specs.declared.file.Verdict.{Verdict}
-use Rattle.runner.specs.declared.file.Verdict.the-variants.{Good, Bad}
+use Rattle.file.specs.declared.Verdict.{Verdict}
+use Rattle.file.specs.declared.Verdict.the-variants.{Good, Bad}
 use Rattle.runner.specs.declared.run.Ran.{Ran}
 use Rattle.runner.specs.declared.run.Ran.the-variants.{Lines, Malformed, Short as TooShort}
-use Rattle.runner.specs.File.{checked, isGood, wellFormed}
+use Rattle.file.specs.File.{checked, isGood, wellFormed}
 use Rattle.runner.specs.Run.{printed, ran, ranInto, reported, reportedInto, room}
-use Rattle.runner.proofs.Lowest.{accepted-exactly}
+use Rattle.file.proofs.Lowest.{accepted-exactly}
 use Rattle.runner.proofs.Whole.{reported-none, served-bad}
 
 pub profile-judged : (p : Profile) → ProfileJudged p

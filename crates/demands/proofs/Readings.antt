@@ -6,8 +6,8 @@ use Rattle.demands.specs.Calls.{perform}
 use Rattle.demands.specs.Table.{Readings}
 use Rattle.bank.specs.Build.{build, buildBank0, buildBank1}
 use Rattle.bank.specs.Memory.{identityLocation, lacksIndicatorByte, memoryLocation, profileLocation, profileWritable, storeProfile, stored as storedBank, writable, writeMemoryLocation}
-use Rattle.calls.specs.Colours.{activateCall, colorValueCall, colourStatusCall, recoloured, setFeaturesCall, stageCall, storeTcLimitCall, valueAnswer}
-use Rattle.calls.specs.Memory.{locationAnswer, memoryLocationCall, rebanked, writeMemoryCall}
+use Rattle.calls.specs.Colours.{activateCall, colorValueCall, colourStatusCall, recoloured, setFeaturesCall, stageCall, storeTcLimitCall}
+use Rattle.calls.specs.Memory.{memoryLocationCall, rebanked, writeMemoryCall}
 use Rattle.colour.specs.Activation.{activate, activated, arcPower, automatic, recall, strays, unlinked}
 use Rattle.colour.specs.Limits.{effectiveCoolest, effectiveWarmest, limitsFit, storeCoolest, storeWarmest, storeLimit}
 use Rattle.colour.specs.Record.{fitb as colourFit, fresh, withFeatures}
@@ -17,7 +17,7 @@ use Rattle.colour.specs.Steps.{snaps, snapped, storeTcLimit}
 use Rattle.colour.specs.Tint.{captured, face, liesWithin}
 use Rattle.colour.specs.Kinds.{kindOf}
 use Rattle.colour.specs.Value.{colorValue, colourStatus}
-use Rattle.gear.specs.Answer.{flag}
+use Rattle.gear.specs.Answer.{flag, locationAnswer, valueAnswer}
 use Rattle.gear.specs.Command.{levelCommand, configCommand, commandOf}
 use Rattle.gear.specs.Marks.{asked, configured, walkFit}
 use Rattle.gear.specs.Profile.{accepted, fixed, floor, isType, shortFit, unitFit}
@@ -30,7 +30,7 @@ use Rattle.level.specs.Arc.{arcLevels, arcPower as arcLevel, levelDown, levelUp
 use Rattle.level.specs.Levels.{held, levelsFit, readjust, readjusts, setLevel, setMaxLevel as maxLevels, setMinLevel as minLevels}
 use Rattle.query.specs.Reply.{gearQueryReply, query}
 use Rattle.query.specs.Walk.{deviceType, next, nextAt, nextDeviceType, typeAt}
-use Rattle.runner.specs.Step.{temperature}
+use Rattle.step.specs.Step.{temperature}
 use Rattle.gear.specs.declared.record.Gear.{Gear}
 use Rattle.numbers.proofs.Logic.{no-false}
 

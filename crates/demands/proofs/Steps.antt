@@ -21,7 +21,7 @@ use Rattle.gear.specs.Record.{fitb}
 use Rattle.gear.specs.Serve.{serve}
 use Rattle.numbers.specs.Numbers.{pick}
 use Rattle.numbers.proofs.Logic.{by-cases}
-use Rattle.runner.specs.Step.{colourStep, step}
+use Rattle.step.specs.Step.{colourStep, step}
 
 entry-beyond : (calls : List Call) (n : ℕ) → length calls ≤ n → entry calls n ≡ none
 entry-beyond [] n h = refl

@@ -15,7 +15,7 @@ use Rattle.gear.specs.declared.answer.Outcome.{Outcome}
 use Rattle.gear.specs.declared.profile.Profile.{Profile}
 use Rattle.gear.specs.declared.record.Gear.{Gear}
 use Rattle.gear.specs.Record.{newGear}
-use Rattle.runner.specs.Step.{step}
+use Rattle.step.specs.Step.{step}
 
 -- No input stops it: over the rules, for every record and any numbers
 pub record ByTheRules : Type 0 where

@@ -16,9 +16,9 @@ use Rattle.gear.specs.declared.profile.Profile.{Profile}
 use Rattle.gear.specs.declared.record.Gear.{Gear}
 use Rattle.gear.specs.Profile.{accepted}
 use Rattle.gear.specs.Record.{fitb, freshGear, newGear}
-use Rattle.runner.specs.declared.file.Verdict.the-variants.{Bad}
+use Rattle.file.specs.declared.Verdict.the-variants.{Bad}
 use Rattle.runner.specs.declared.run.Ran.the-variants.{Lines, Malformed, Short}
-use Rattle.runner.specs.File.{checked, wellFormed}
+use Rattle.file.specs.File.{checked, wellFormed}
 use Rattle.runner.specs.Run.{printed, ran, ranInto, room}
 
 -- ## The calls that take a record

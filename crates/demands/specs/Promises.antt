@@ -16,7 +16,7 @@ use Rattle.gear.specs.declared.answer.Outcome.{Outcome}
 use Rattle.gear.specs.declared.profile.Profile.{Profile}
 use Rattle.gear.specs.declared.record.Gear.{Gear}
 use Rattle.gear.proofs.record
-use Rattle.runner.proofs.step
+use Rattle.step.proofs.step
 
 -- `Post` is the function's promise, of its arguments, its result, and its arguments as they are at the end, which for values is as
 -- they were. A call that only answers hands back no record: the caller's own stays as it was.
@@ -68,4 +68,4 @@ abbrev pub PromisedNew : Profile → Outcome → Type 0
 PromisedNew p o = record.Gear.new.Reads.Post tt (p, tt) o (p, tt)
 
 abbrev pub PromisedStep : Gear → ℕ → ℕ → ℕ → ℕ → Outcome → Type 0
-PromisedStep g kind a b c o = step.step.Reads.Post tt (g, (kind, (a, (b, (c, tt))))) o (g, (kind, (a, (b, (c, tt)))))
+PromisedStep g kind a b c o = step.Reads.Post tt (g, (kind, (a, (b, (c, tt))))) o (g, (kind, (a, (b, (c, tt)))))

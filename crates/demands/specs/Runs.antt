@@ -5,10 +5,10 @@ use mathlib.Core.Bool.{true, false}
 use mathlib.Core.List.{List}
 use lib.ListN.{length}
 use Rattle.runner.proofs.run
-use Rattle.runner.specs.declared.file.Verdict.the-variants.{Bad}
+use Rattle.file.specs.declared.Verdict.the-variants.{Bad}
 use Rattle.runner.specs.declared.run.Ran.{Ran}
 use Rattle.runner.specs.declared.run.Ran.the-variants.{Malformed, Short}
-use Rattle.runner.specs.File.{checked, wellFormed}
+use Rattle.file.specs.File.{checked, wellFormed}
 use Rattle.runner.specs.Run.{room}
 
 -- every outcome that meets a promise is as a claim says: of the arguments, the result, and the parameters at exit

@@ -15,7 +15,7 @@ use Rattle.gear.specs.declared.answer.Refusal.the-variants.{Unfit, Byte}
 use Rattle.gear.specs.declared.record.Gear.{Gear}
 use Rattle.gear.specs.Record.{fitb}
 use Rattle.numbers.specs.Numbers.{pick}
-use Rattle.runner.specs.Step.{pair, temperature}
+use Rattle.step.specs.Step.{pair, temperature}
 
 -- kinds 0 to 12, in order; bytes not named are ignored
 abbrev pub kinds : ℕ → ℕ → ℕ → List Call

@@ -12,7 +12,7 @@ use Rattle.gear.specs.declared.answer.Answer.{Answer}
 use Rattle.gear.specs.declared.answer.Answer.the-variants.{Done, Value, Nothing}
 use Rattle.gear.specs.declared.profile.Profile.{Profile}
 use Rattle.gear.specs.declared.profile.Short.the-variants.{Missing}
-use Rattle.runner.specs.Step.{temperature}
+use Rattle.step.specs.Step.{temperature}
 
 -- ## Gears and calls by name
 

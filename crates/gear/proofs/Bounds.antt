@@ -27,7 +27,7 @@ recalled-bounded : (l : Levels) (v : ℕ) → l .min ≤ l .max → Bounded l �
 unfolding recalledLevels
 recalled-bounded l v h b = by-cases (eqb v 255) (λ e. rw e b) (λ e. rw e (LevelBounds.set-level-bounded l v h))
 
-set-min-bounded : (g : Gear) (v : ℕ) → GearFit g → Bounded (g .levels) → Bounded (setMin g v)
+set-min-bounded : (g : Gear) (v : ℕ) → GearFit g → Bounded (g .levels) → Bounded (setMin (g .unit) (g .levels) v)
 unfolding setMin
 set-min-bounded g v f b =
     by-cases (fixed (g .unit)) (λ e. rw e b)

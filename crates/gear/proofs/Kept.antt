@@ -46,7 +46,7 @@ recall-kept g s f =
       walk = refl;
     }
 
-set-min-kept : (g : Gear) (v : ℕ) → GearFit g → LevelFit.Fit (floor (g .unit)) (setMin g v)
+set-min-kept : (g : Gear) (v : ℕ) → GearFit g → LevelFit.Fit (floor (g .unit)) (setMin (g .unit) (g .levels) v)
 unfolding setMin
 set-min-kept g v f = by-cases (fixed (g .unit)) (λ e. rw e (f .levels)) (λ e. rw e (LevelFit.set-min-kept v (f .levels)))
 

@@ -7,6 +7,10 @@ use Rattle.gear.specs.declared.answer.Outcome.{Outcome}
 use Rattle.gear.specs.declared.answer.Refusal.{Refusal}
 use Rattle.gear.specs.declared.answer.Refusal.the-variants.{Profile, Unfit, Byte, Group, File}
 use Rattle.gear.specs.declared.record.Gear.{Gear}
+use Rattle.bank.specs.declared.memory.Location.{Location}
+use Rattle.bank.specs.declared.memory.Location.the-variants.{Byte as Stored, Nothing as Unread}
+use Rattle.colour.specs.declared.value.ColourValue.{ColourValue}
+use Rattle.colour.specs.declared.value.ColourValue.the-variants.{Value as Shown, Nothing as Hidden}
 use Rattle.numbers.specs.Numbers.{pick}
 
 abbrev pub refusalNumber : Refusal → ℕ
@@ -26,3 +30,12 @@ done g = record { answer = Done; gear = g }
 -- the record comes back as it was
 abbrev pub refused : Gear → Refusal → Outcome
 refused g r = record { answer = Refused r; gear = g }
+
+-- what the gear lacks is no value, and no refusal
+unfoldable pub valueAnswer : ColourValue → Answer
+valueAnswer (Shown v) = Value v
+valueAnswer Hidden = Nothing
+
+unfoldable pub locationAnswer : Location → Answer
+locationAnswer (Stored b) = Value b
+locationAnswer Unread = Nothing

@@ -10,6 +10,7 @@ use Rattle.gear.specs.declared.command.ConfigCommand.the-variants.{SetMa
 use Rattle.gear.specs.declared.command.StandardCommand.{StandardCommand}
 use Rattle.gear.specs.declared.command.StandardCommand.the-variants.{Arc, GoToScene, Reset, IdentifyDevice, Config, EnableWriteMemory, Unknown}
 use Rattle.gear.specs.declared.marks.Marks.{Marks}
+use Rattle.gear.specs.declared.profile.Unit.{Unit}
 use Rattle.gear.specs.declared.record.Fades.{Fades}
 use Rattle.gear.specs.declared.record.Gear.{Gear}
 use Rattle.gear.specs.declared.record.LevelSetting.{LevelSetting}
@@ -146,8 +147,8 @@ recallScene g s = withLight g (recalledLevels (g .levels) (sceneLevel g s)) (ask
 -- ---- settings
 
 -- a type 7 gear that is not adjustable keeps its lowest level
-unfoldable pub setMin : Gear → ℕ → Levels
-setMin g v = pick (fixed (g .unit)) (g .levels) (setMinLevel (g .levels) (floor (g .unit)) v)
+unfoldable pub setMin : Unit → Levels → ℕ → Levels
+setMin u l v = pick (fixed u) l (setMinLevel l (floor u) v)
 
 -- above 79 it is 0
 unfoldable pub extendedFade : ℕ → ℕ
@@ -177,7 +178,7 @@ setSystemFailureLevel g v =
 -- what a setting stores, over the marks that every setting leaves
 unfoldable pub configWrite : Gear → ConfigCommand → ℕ → Gear
 configWrite g SetMaxLevel d = withLight g (setMaxLevel (g .levels) d) (configured (g .marks)) (g .colour)
-configWrite g SetMinLevel d = withLight g (setMin g d) (configured (g .marks)) (g .colour)
+configWrite g SetMinLevel d = withLight g (setMin (g .unit) (g .levels) d) (configured (g .marks)) (g .colour)
 configWrite g SetSystemFailureLevel d = setSystemFailureLevel (withMarks g (configured (g .marks))) d
 configWrite g SetPowerOnLevel d = setPowerOnLevel (withMarks g (configured (g .marks))) d
 configWrite g SetFadeTime d = withFades (withMarks g (configured (g .marks))) d (g .fades .rate) (g .fades .extended)

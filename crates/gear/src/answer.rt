@@ -1,7 +1,9 @@
 // What a call answers: nothing to say, a value, no value, or a refusal with its number.
 use crate::record::Gear;
+use bank::memory::Location;
+use colour::value::ColourValue;
 ghost use mathlib.Core.Path.{_≡_};
-ghost use Rattle.gear.specs.Answer.{refusalNumber, flag, refused, done};
+ghost use Rattle.gear.specs.Answer.{refusalNumber, flag, refused, done, valueAnswer, locationAnswer};
 
 // Why a call was refused.
 pub enum Refusal {
@@ -66,5 +68,24 @@ pub fn refused(gear: Gear, refusal: Refusal) -> Outcome
     Outcome {
         answer: Answer::Refused(refusal),
         gear: gear,
+    }
+}
+
+// The answer of a colour value; and of a memory location.
+pub fn value_answer(value: ColourValue) -> Answer
+    ensures { λ r. ⌜ r ≡ valueAnswer value ⌝ }
+{
+    match value {
+        ColourValue::Value(number) => Answer::Value(number),
+        ColourValue::Nothing => Answer::Nothing,
+    }
+}
+
+pub fn location_answer(found: Location) -> Answer
+    ensures { λ r. ⌜ r ≡ locationAnswer found ⌝ }
+{
+    match found {
+        Location::Byte(byte) => Answer::Value(byte as u16),
+        Location::Nothing => Answer::Nothing,
     }
 }

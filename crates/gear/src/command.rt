@@ -66,7 +66,7 @@ fn config_command(low: u8) -> StandardCommand
     }
 }
 
-pub(crate) fn command_of(byte: u8) -> StandardCommand
+pub fn command_of(byte: u8) -> StandardCommand
     ensures { λ r. ⌜ r ≡ commandOf byte ⌝ }
 {
     let block = byte / 16;

@@ -3,6 +3,7 @@
 pub mod answer;
 pub mod command;
 pub mod marks;
+pub mod parts;
 pub mod profile;
 pub mod record;
 pub mod scene;

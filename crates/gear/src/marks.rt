@@ -71,7 +71,7 @@ impl Marks {
     }
 
     // A command that asks for a level ends the power-cycle mark and the identify mark, unless it keeps that one.
-    pub(crate) fn asked(self, keeps: bool) -> Marks
+    pub fn asked(self, keeps: bool) -> Marks
         ensures { λ r. ⌜ r ≡ asked self keeps ⌝ }
     {
         if keeps {
@@ -81,19 +81,19 @@ impl Marks {
     }
 
     // A setting ends the reset state and the identify mark.
-    pub(crate) fn configured(self) -> Marks
+    pub fn configured(self) -> Marks
         ensures { λ r. ⌜ r ≡ configured self ⌝ }
     {
         self.heard(false, self.cycled, false, self.writable)
     }
 
-    pub(crate) fn identified(self) -> Marks
+    pub fn identified(self) -> Marks
         ensures { λ r. ⌜ r ≡ identified self ⌝ }
     {
         self.heard(self.reset, self.cycled, true, self.writable)
     }
 
-    pub(crate) fn enabled(self) -> Marks
+    pub fn enabled(self) -> Marks
         ensures { λ r. ⌜ r ≡ enabled self ⌝ }
     {
         self.heard(self.reset, self.cycled, false, true)

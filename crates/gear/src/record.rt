@@ -147,7 +147,7 @@ impl Gear {
 
     // Part 102, 11.4.2 and part 209, table 8: a reset keeps the profile, enabled, the faults and the active colour; the rest is
     // that of a new gear, whose power cycle was seen.
-    pub(crate) fn reset_gear(self) -> Gear
+    pub fn reset_gear(self) -> Gear
         ensures { λ r. ⌜ r ≡ resetGear self ⌝ }
     {
         let unit = self.unit;

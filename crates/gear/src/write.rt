@@ -6,6 +6,10 @@ use crate::answer::refused;
 use crate::command::ConfigCommand;
 use crate::command::StandardCommand;
 use crate::command::command_of;
+use crate::parts::extended_fade;
+use crate::parts::keeps_identify;
+use crate::parts::recalled_levels;
+use crate::parts::set_min;
 use crate::record::Gear;
 use crate::record::LevelSetting;
 use crate::record::SCENE_UNSET;
@@ -20,31 +24,8 @@ use colour::setting::ColourSetting;
 use colour::staging::take_staged_colour;
 use level::arc::ArcCommand;
 use level::arc::apply_arc;
-use level::levels::Levels;
 ghost use mathlib.Core.Path.{_≡_};
-ghost use Rattle.gear.specs.Write.{keepsIdentify, arcWrite, recalledLevels, recallScene, setMin, extendedFade, setScene, removeScene, setPowerOnLevel, setSystemFailureLevel, configWrite, identify, enableWrite, write, applyStandardWrite, directArcPower};
-
-// The longest extended fade time that is stored as it came.
-const EXTENDED_FADE_MAX: u8 = 79;
-
-// Part 102, 9.14.3: recalling the highest or the lowest level leaves the identify mark.
-fn keeps_identify(command: ArcCommand) -> bool
-    ensures { λ r. ⌜ r ≡ keepsIdentify command ⌝ }
-{
-    match command {
-        ArcCommand::DirectArcPower(_) => false,
-        ArcCommand::Off => false,
-        ArcCommand::Up => false,
-        ArcCommand::Down => false,
-        ArcCommand::StepUp => false,
-        ArcCommand::StepDown => false,
-        ArcCommand::RecallMaxLevel => true,
-        ArcCommand::RecallMinLevel => true,
-        ArcCommand::StepDownAndOff => false,
-        ArcCommand::OnAndStepUp => false,
-        ArcCommand::GoToLastActiveLevel => false,
-    }
-}
+ghost use Rattle.gear.specs.Write.{arcWrite, recallScene, setScene, removeScene, setPowerOnLevel, setSystemFailureLevel, configWrite, identify, enableWrite, write, applyStandardWrite, directArcPower};
 
 fn arc_write(gear: Gear, command: ArcCommand) -> Gear
     ensures { λ r. ⌜ r ≡ arcWrite gear command ⌝ }
@@ -57,16 +38,6 @@ fn arc_write(gear: Gear, command: ArcCommand) -> Gear
     next.colour = arc_power_activation(colour);
     next.levels = apply_arc(levels, command);
     next
-}
-
-// A scene without a level asks for none.
-fn recalled_levels(levels: Levels, level: u8) -> Levels
-    ensures { λ r. ⌜ r ≡ recalledLevels levels level ⌝ }
-{
-    if level == SCENE_UNSET {
-        return levels;
-    }
-    levels.set_level(level)
 }
 
 // Part 209, 9.11.4: the scene's colour, then its level.
@@ -83,27 +54,6 @@ fn recall_scene(gear: Gear, scene: u8) -> Gear
     next.colour = recall(colour, colour_at(colours, scene));
     next.levels = recalled_levels(levels, level_at(scenes, scene));
     next
-}
-
-// Part 208: a switching gear may have a fixed lowest level.
-fn set_min(gear: Gear, asked: u8) -> Levels
-    ensures { λ r. ⌜ r ≡ setMin gear asked ⌝ }
-{
-    let levels = gear.levels;
-    let unit = gear.unit;
-    if unit.levels_fixed() {
-        return levels;
-    }
-    levels.set_min_level(unit.min_level_floor(), asked)
-}
-
-fn extended_fade(asked: u8) -> u8
-    ensures { λ r. ⌜ r ≡ extendedFade asked ⌝ }
-{
-    if EXTENDED_FADE_MAX < asked {
-        return 0;
-    }
-    asked
 }
 
 // Part 209, 9.11.4: the level, and the staged colour where there is one.
@@ -182,6 +132,7 @@ fn config_write(gear: Gear, command: ConfigCommand, dtr0: u8) -> Gear
     let levels = gear.levels;
     let marks = gear.marks;
     let groups = gear.groups;
+    let unit = gear.unit;
     let mut next = gear;
     next.marks = marks.configured();
     match command {
@@ -190,7 +141,7 @@ fn config_write(gear: Gear, command: ConfigCommand, dtr0: u8) -> Gear
             next
         }
         ConfigCommand::SetMinLevel => {
-            next.levels = set_min(gear, dtr0);
+            next.levels = set_min(unit, levels, dtr0);
             next
         }
         ConfigCommand::SetSystemFailureLevel => set_system_failure_level(next, dtr0),

@@ -26,7 +26,7 @@ use Rattle.gear.specs.declared.profile.Profile.{Profile}
 use Rattle.gear.specs.Marks.{walkFit}
 use Rattle.gear.specs.Profile.{accepted, floor, isType, shortFit, unitFit}
 use Rattle.gear.specs.Record.{fitb, freshGear}
-use Rattle.gear.specs.Scene.{colourAt}
+use Rattle.gear.specs.Scene.{colourAt, nowhere}
 use Rattle.gear.specs.Serve.{serve}
 use Rattle.gear.specs.Types.{hasType, member}
 use Rattle.gear.proofs.Built.{fresh-fit}
@@ -37,7 +37,7 @@ use Rattle.numbers.proofs.Logic.{by-cases}
 
 no-colour : (s : ℕ) → colourAt (replicate 16 mask) s ≡ mask
 unfolding colourAt
-no-colour s = by-cases (leb 16 s) (λ e. rw e) (λ e. rw e (getD-replicate 16 s mask mask (leb-false 16 s e)))
+no-colour s = by-cases (leb 16 s) (λ e. rw e) (λ e. rw e (getD-replicate 16 s mask nowhere (leb-false 16 s e)))
 
 scene-clean : (p : Profile) (s : ℕ) → RecallsClean (freshGear p) s
 unfolding recall withFeatures freshGear fresh

@@ -21,8 +21,9 @@ use Rattle.order.proofs.Tied.{tied}
 use Rattle.bank.specs.declared.build.Banks.{Banks}
 use Rattle.bank.specs.Memory.{writeMemoryLocation}
 use Rattle.calls.specs.Colours.{activateCall, recoloured, storeTcLimitCall, tcStepCall, xyStepCall}
-use Rattle.calls.specs.Memory.{locationAnswer, rebanked, writeMemoryCall}
+use Rattle.calls.specs.Memory.{rebanked, writeMemoryCall}
 use Rattle.demands.specs.Calls.{perform as performCall}
+use Rattle.gear.specs.Answer.{locationAnswer}
 use Rattle.gear.specs.Command.{commandOf}
 use Rattle.gear.specs.declared.answer.Answer.{Answer}
 use Rattle.gear.specs.declared.answer.Answer.the-variants.{Done}

@@ -8,7 +8,7 @@ use lib.ListN.{getD, set}
 use lib.Seq.{getD-set-other, set-getD}
 use Rattle.colour.specs.declared.setting.ColourSetting.{ColourSetting}
 use Rattle.colour.specs.Setting.{mask}
-use Rattle.gear.specs.Scene.{colourAt, levelAt, stored}
+use Rattle.gear.specs.Scene.{colourAt, levelAt, nowhere, stored}
 use Rattle.numbers.specs.Numbers.{pick}
 use Rattle.numbers.proofs.Logic.{by-cases}
 use Rattle.order.specs.Carry.{store}
@@ -51,9 +51,9 @@ pub colour-elsewhere :
     (xs : List ColourSetting) (n m : ℕ) (v : Option ColourSetting) → Differ n m → colourAt (store m v xs) n ≡ colourAt xs n
 unfolding colourAt
 colour-elsewhere xs n m none d = refl
-colour-elsewhere xs n m (some v) d = ap (pick (leb 16 n) mask) (getD-stored xs n m v mask d)
+colour-elsewhere xs n m (some v) d = ap (pick (leb 16 n) mask) (getD-stored xs n m v nowhere d)
 
 -- what stands at a place, stored there once more
 pub store-own : (xs : List ColourSetting) (n : ℕ) → stored xs n (colourAt xs n) ≡ xs
 unfolding stored colourAt
-store-own xs n = by-cases (leb 16 n) (λ e. rw e) (λ e. rw e (set-getD xs n mask))
+store-own xs n = by-cases (leb 16 n) (λ e. rw e) (λ e. rw e (set-getD xs n nowhere))

@@ -1,4 +1,5 @@
 pub mod Bits
+pub mod Heard
 pub mod Lamp
 pub mod Reply
 pub mod Status

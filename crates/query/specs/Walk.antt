@@ -3,10 +3,12 @@ use Prim.Native.Nat.{ℕ, _+_}
 use mathlib.Core.List.{List}
 use lib.Dec.{eqb, leb}
 use lib.ListN.{getD}
+use Rattle.gear.specs.declared.answer.Answer.{Answer}
 use Rattle.gear.specs.declared.answer.Answer.the-variants.{Value, Nothing}
 use Rattle.gear.specs.declared.answer.Outcome.{Outcome}
 use Rattle.gear.specs.declared.marks.Walk.{Walk}
 use Rattle.gear.specs.declared.marks.Walk.the-variants.{Off, At}
+use Rattle.gear.specs.declared.profile.Unit.{Unit}
 use Rattle.gear.specs.declared.record.Gear.{Gear}
 use Rattle.gear.specs.Marks.{withWalk}
 use Rattle.gear.specs.Write.{withMarks}
@@ -41,3 +43,19 @@ next g (At n) = nextAt g n
 unfoldable pub nextDeviceType : Gear → Outcome
 unfolding next
 nextDeviceType g = next g (g .marks .walk)
+
+-- ---- the answers alone, from the types
+
+-- query 153
+unfoldable pub typeAnswer : Unit → Answer
+typeAnswer u =
+    pick (eqb (u .count) 0) (Value 254) (pick (eqb (u .count) 1) (Value (typeAt (u .types) 0)) (Value 255))
+
+-- the type at a place; 254 past the last
+unfoldable pub answerAt : Unit → ℕ → Answer
+answerAt u at = pick (leb (u .count) at) (Value 254) (Value (typeAt (u .types) at))
+
+-- query 167
+unfoldable pub nextTypeAnswer : Unit → Walk → Answer
+nextTypeAnswer u Off = Nothing
+nextTypeAnswer u (At n) = answerAt u n

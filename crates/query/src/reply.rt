@@ -1,223 +1,47 @@
-// The queries by their bytes (document 01, 'Command bytes').
-use crate::bits::eight;
-use crate::lamp::actual_level_answer;
-use crate::lamp::lamp_on;
-use crate::status::is_missing;
-use crate::status::status_byte;
-use crate::walk::device_type_reply;
-use crate::walk::next_device_type_reply;
+// A query: what it answers, and the record that follows.
+use crate::heard::reports;
+use crate::heard::shown;
+use crate::heard::walked;
+use crate::told::query_answer;
 use colour::record::Colour;
 use colour::report::load_report_from;
-use colour::report::load_report_from_actual;
-use gear::answer::Answer;
 use gear::answer::Outcome;
 use gear::answer::Refusal;
 use gear::answer::refused;
-use gear::marks::Walk;
 use gear::record::Gear;
 use gear::scene::colour_at;
-use gear::scene::level_at;
 ghost use mathlib.Core.Path.{_≡_};
-ghost use Rattle.query.specs.Reply.{isStatusQuery, isSettingQuery, isQuery, yes, statusReply, packedFades, gearFailure, settingReply, identityReply, reply, reportFor, reported, heardQuery, query, gearQueryReply};
+ghost use Rattle.query.specs.Reply.{reported, query, gearQueryReply};
 
-fn is_status_query(low: u8) -> bool
-    ensures { λ r. ⌜ r ≡ isStatusQuery low ⌝ }
-{
-    match low {
-        8 => false,
-        12 => false,
-        13 => false,
-        _ => true,
-    }
-}
-
-fn is_setting_query(low: u8) -> bool
-    ensures { λ r. ⌜ r ≡ isSettingQuery low ⌝ }
-{
-    if low <= 8 {
-        return true;
-    }
-    low == 10
-}
-
-pub(crate) fn is_query(byte: u8) -> bool
-    ensures { λ r. ⌜ r ≡ isQuery byte ⌝ }
-{
-    let block = byte / 16;
-    let low = byte % 16;
-    match block {
-        9 => is_status_query(low),
-        10 => is_setting_query(low),
-        11 => true,
-        12 => low <= 4,
-        _ => false,
-    }
-}
-
-// Yes is 255; no is no answer.
-fn yes(holds: bool) -> Answer
-    ensures { λ r. ⌜ r ≡ yes holds ⌝ }
-{
-    if holds {
-        return Answer::Value(255);
-    }
-    Answer::Nothing
-}
-
-fn value(byte: u8) -> Answer
-    ensures { λ r. ⌜ r ≡ Answer.Value byte ⌝ }
-{
-    Answer::Value(byte as u16)
-}
-
-// Queries 144 to 159.
-fn status_reply(gear: Gear, low: u8) -> Answer
-    ensures { λ r. ⌜ r ≡ statusReply gear low ⌝ }
-{
-    let unit = gear.unit;
-    let short = unit.short;
-    match low {
-        0 => value(status_byte(gear)),
-        1 => Answer::Value(255),
-        2 => yes(gear.lamp.failure),
-        3 => yes(lamp_on(gear)),
-        4 => yes(gear.levels.error),
-        5 => yes(gear.marks.reset),
-        6 => yes(is_missing(short)),
-        7 => Answer::Value(8),
-        10 => value(unit.minimum),
-        11 => yes(gear.marks.cycled),
-        14 => Answer::Value(0),
-        15 => Answer::Value(6),
-        _ => Answer::Nothing,
-    }
-}
-
-// Fade time in the high half, fade rate in the low one, whatever else is stored in them.
-fn packed_fades(time: u8, rate: u8) -> u8
-    ensures { λ r. ⌜ r ≡ packedFades time rate ⌝ }
-{
-    time % 16 * 16 + rate % 16
-}
-
-// Bit 0 of the status.
-fn gear_failure(gear: Gear) -> bool
-    ensures { λ r. ⌜ r ≡ gearFailure gear ⌝ }
-{
-    let status = status_byte(gear);
-    status % 2 == 1
-}
-
-// Queries 160 to 170. No operating mode of this gear is a manufacturer's own, so 166 is never answered.
-fn setting_reply(gear: Gear, low: u8) -> Answer
-    ensures { λ r. ⌜ r ≡ settingReply gear low ⌝ }
-{
-    match low {
-        0 => value(actual_level_answer(gear)),
-        1 => value(gear.levels.max),
-        2 => value(gear.levels.min),
-        3 => value(gear.on.level),
-        4 => value(gear.failure.level),
-        5 => value(packed_fades(gear.fades.time, gear.fades.rate)),
-        8 => value(gear.fades.extended),
-        10 => yes(gear_failure(gear)),
-        _ => Answer::Nothing,
-    }
-}
-
-// Queries 192 to 196.
-fn identity_reply(gear: Gear, low: u8) -> Answer
-    ensures { λ r. ⌜ r ≡ identityReply gear low ⌝ }
-{
-    let groups = gear.groups;
-    let random = gear.unit.random;
-    match low {
-        0 => value(eight(groups, false)),
-        1 => value(eight(groups, true)),
-        2 => Answer::Value((random / 65536 % 256) as u16),
-        3 => Answer::Value((random / 256 % 256) as u16),
-        4 => Answer::Value((random % 256) as u16),
-        _ => Answer::Nothing,
-    }
-}
-
-fn reply(gear: Gear, byte: u8) -> Answer
-    ensures { λ r. ⌜ r ≡ reply gear byte ⌝ }
-{
-    let scenes = gear.scenes;
-    let block = byte / 16;
-    let low = byte % 16;
-    match block {
-        9 => status_reply(gear, low),
-        10 => setting_reply(gear, low),
-        11 => value(level_at(scenes, low)),
-        12 => identity_reply(gear, low),
-        _ => Answer::Nothing,
-    }
-}
-
-// Part 209, 11.3.2: the queries that tell a level also report its colour.
-fn report_for(gear: Gear, byte: u8) -> Colour
-    ensures { λ r. ⌜ r ≡ reportFor gear byte ⌝ }
-{
-    let colour = gear.colour;
-    let colours = gear.colours;
-    let on = gear.on.colour;
-    let failure = gear.failure.colour;
-    if byte == 160 {
-        return load_report_from_actual(colour);
-    }
-    if byte == 163 {
-        return load_report_from(colour, on);
-    }
-    if byte == 164 {
-        return load_report_from(colour, failure);
-    }
-    if byte / 16 == 11 {
-        return load_report_from(colour, colour_at(colours, byte % 16));
-    }
-    colour
-}
-
-// Only a colour gear reports.
+// Part 209, 11.3.2: a colour gear reports the colour of the level that it tells.
 fn reported(gear: Gear, byte: u8) -> Colour
     ensures { λ r. ⌜ r ≡ reported gear byte ⌝ }
 {
     let unit = gear.unit;
     let colour = gear.colour;
-    if unit.is_dt8() {
-        return report_for(gear, byte);
+    if reports(unit, byte) {
+        let active = colour.active;
+        let on = gear.on.colour;
+        let failure = gear.failure.colour;
+        let colours = gear.colours;
+        let scene = colour_at(colours, byte % 16);
+        return load_report_from(colour, shown(active, on, failure, scene, byte));
     }
     colour
-}
-
-// Every query but the two of the walk ends the walk.
-fn heard(gear: Gear, byte: u8) -> Gear
-    ensures { λ r. ⌜ r ≡ heardQuery gear byte ⌝ }
-{
-    let marks = gear.marks;
-    let mut next = gear;
-    next.marks = marks.with_walk(Walk::Off);
-    next.colour = reported(gear, byte);
-    next
 }
 
 fn query(gear: Gear, byte: u8) -> Outcome
     ensures { λ r. ⌜ r ≡ query gear byte ⌝ }
 {
-    if byte == 153 {
-        return device_type_reply(gear);
+    let unit = gear.unit;
+    let marks = gear.marks;
+    let mut next = gear;
+    next.marks = walked(unit, marks, byte);
+    next.colour = reported(gear, byte);
+    Outcome {
+        answer: query_answer(gear, byte),
+        gear: next,
     }
-    if byte == 167 {
-        return next_device_type_reply(gear);
-    }
-    if is_query(byte) {
-        return Outcome {
-            answer: reply(gear, byte),
-            gear: heard(gear, byte),
-        };
-    }
-    refused(gear, Refusal::Byte)
 }
 
 pub fn gear_query_reply(gear: Gear, byte: u8) -> Outcome

@@ -59,6 +59,30 @@ of-five n h =
     (ap (λ ds. (((ds ++ (digit (n / 10 / 10 / 10 % 10) ∷ [])) ++ (digit (n / 10 / 10 % 10) ∷ [])) ++ (digit (n / 10 % 10) ∷ [])) ++ (digit (n % 10) ∷ [])) (first-of-five n) ∙
     ap₂ (λ d e. digit (n / 10000 % 10) ∷ digit d ∷ digit e ∷ lastTwo n) one two)
 
+-- ## The rest of a division
+
+-- what is left after the first digit has the other digits
+pub rest-two : (n : ℕ) → lastTwo (n % 100) ≡ lastTwo n
+rest-two n =
+    let one : n % 100 / 10 % 10 ≡ n / 10 % 10 = omega arith in
+    let two : n % 100 % 10 ≡ n % 10 = omega arith in
+    ap₂ (λ d e. digit d ∷ digit e ∷ []) one two
+
+pub rest-three : (n : ℕ) → digit (n % 1000 / 100 % 10) ∷ lastTwo (n % 1000) ≡ digit (n / 100 % 10) ∷ lastTwo n
+rest-three n =
+    let one : n % 1000 / 100 % 10 ≡ n / 100 % 10 = omega arith in
+    let two : n % 1000 / 10 % 10 ≡ n / 10 % 10 = omega arith in
+    let three : n % 1000 % 10 ≡ n % 10 = omega arith in
+    rw (one, two, three) refl
+
+pub rest-four : (n : ℕ) → digit (n % 10000 / 1000 % 10) ∷ digit (n % 10000 / 100 % 10) ∷ lastTwo (n % 10000) ≡ digit (n / 1000 % 10) ∷ digit (n / 100 % 10) ∷ lastTwo n
+rest-four n =
+    let one : n % 10000 / 1000 % 10 ≡ n / 1000 % 10 = omega arith in
+    let two : n % 10000 / 100 % 10 ≡ n / 100 % 10 = omega arith in
+    let three : n % 10000 / 10 % 10 ≡ n / 10 % 10 = omega arith in
+    let four : n % 10000 % 10 ≡ n % 10 = omega arith in
+    rw (one, two, three, four) refl
+
 -- ## How many
 
 pub digits-length : (most n k : ℕ) → 0 < k → n < 10 ^ k → length (digits most n) ≤ k

@@ -3,8 +3,8 @@ use Prim.Native.Nat.{ℕ}
 use mathlib.Core.Path.{_≡_, refl}
 use mathlib.Core.List.{List, [], _∷_, _++_}
 use lib.ListN.{take, set}
-use Rattle.runner.specs.declared.file.Verdict.the-variants.{Good, Bad}
-use Rattle.runner.specs.File.{checked, wellFormed, typesOf, profileOf, stepsOf}
+use Rattle.file.specs.declared.Verdict.the-variants.{Good, Bad}
+use Rattle.file.specs.File.{checked, wellFormed, typesOf, profileOf, stepsOf}
 
 abbrev file : List ℕ
 file =

@@ -1,6 +1,7 @@
 -- The lines of a run: how long they are at most, and how one more is added.
 use Prim.Native.Nat.{ℕ, zero, suc, _+_, _*_, _≤_, _<_}
 use mathlib.Core.Path.{_≡_, refl, ap, _∙_}
+use mathlib.Core.Bool.{Bool, true, false}
 use mathlib.Core.List.{List, [], _++_}
 use lib.ListN.{length, length-append}
 use native.Mathlib.Numerals.{add-one}
@@ -9,9 +10,10 @@ use Rattle.gear.specs.declared.answer.Answer.{Answer}
 use Rattle.gear.specs.declared.answer.Outcome.{Outcome}
 use Rattle.gear.specs.declared.record.Gear.{Gear}
 use Rattle.runner.specs.Line.{Wrote, lineText}
-use Rattle.runner.specs.Run.{performed, stateAfter, textAfter}
+use Rattle.runner.specs.Run.{answerAfter, performed, stateAfter, textAfter}
 use Rattle.runner.proofs.Lines.{line-length}
-use Rattle.runner.proofs.Written.{room-then, wrote-then}
+use Rattle.runner.proofs.Written.{room-then, wrote-none, wrote-then}
+use Rattle.numbers.specs.Numbers.{pick}
 
 module _ (steps : List ℕ) (g : Gear) where
   -- what step k, counted from 0, answers
@@ -47,3 +49,13 @@ module _ (steps : List ℕ) (g : Gear) where
   pub state-more : (k : ℕ) → stateAfter steps g (k + 1) ≡ performed steps (stateAfter steps g k) k .gear
   unfolding stateAfter
   state-more k = rw add-one
+
+  -- before the first step nothing is written, whether lines are wanted or not
+  pub told-none : (lines : Bool) (out : List ℕ) → Wrote out 0 (pick lines (textAfter steps g 0) []) out 0
+  unfolding textAfter
+  told-none true out = wrote-none out 0
+  told-none false out = wrote-none out 0
+
+  pub answer-more : (k : ℕ) → answerAfter steps g (k + 1) ≡ performed steps (stateAfter steps g k) k .answer
+  unfolding answerAfter
+  answer-more k = rw add-one

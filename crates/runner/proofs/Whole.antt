@@ -6,14 +6,14 @@ use lib.ListN.{length}
 use native.Mathlib.Nat.{zero-add}
 use native.Mathlib.Omega.{arith}
 use borrow.Author.Tests.{le-leb, lt-leb}
-use Rattle.runner.specs.declared.file.Verdict.the-variants.{Good, Bad}
+use Rattle.file.specs.declared.Verdict.the-variants.{Good, Bad}
 use Rattle.runner.specs.declared.run.Ran.{Ran}
 use Rattle.runner.specs.declared.run.Ran.the-variants.{Lines, Malformed, Short}
-use Rattle.runner.specs.File.{wellFormed, checked, stepsOf}
+use Rattle.file.specs.File.{wellFormed, checked, stepsOf}
 use Rattle.runner.specs.Line.{Wrote, endText}
 use Rattle.runner.specs.Run.{textAfter, countOf, firstOf, lastOf, linesOf, room, printed, ran, ranInto, reported, reportedInto}
 use Rattle.runner.proofs.Running.{text-length}
-use Rattle.runner.proofs.Shape.{shape, steps-length}
+use Rattle.file.proofs.Shape.{shape, steps-length}
 use Rattle.runner.proofs.Written.{wrote-behind}
 use Rattle.numbers.proofs.Logic.{by-cases}
 

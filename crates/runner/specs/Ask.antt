@@ -1,11 +1,11 @@
 -- One more step on the record that a file's steps leave.
 use Prim.Native.Nat.{ℕ}
 use mathlib.Core.List.{List}
-use Rattle.runner.specs.declared.file.Verdict.{Verdict}
-use Rattle.runner.specs.declared.file.Verdict.the-variants.{Good, Bad}
-use Rattle.runner.specs.File.{checked}
+use Rattle.file.specs.declared.Verdict.{Verdict}
+use Rattle.file.specs.declared.Verdict.the-variants.{Good, Bad}
+use Rattle.file.specs.File.{checked}
 use Rattle.runner.specs.Run.{lastOf}
-use Rattle.runner.specs.Step.{step}
+use Rattle.step.specs.Step.{step}
 use Rattle.gear.specs.declared.answer.Answer.{Answer}
 use Rattle.gear.specs.declared.answer.Answer.the-variants.{Refused}
 use Rattle.gear.specs.declared.answer.Outcome.{Outcome}

@@ -3,14 +3,16 @@ use Prim.Native.Nat.{ℕ, zero, suc, _+_, _*_, _/_}
 use mathlib.Core.List.{List, [], _++_}
 use lib.Dec.{leb}
 use lib.ListN.{getD, length}
-use Rattle.runner.specs.declared.file.Verdict.{Verdict}
-use Rattle.runner.specs.declared.file.Verdict.the-variants.{Good, Bad}
+use Rattle.file.specs.declared.Verdict.{Verdict}
+use Rattle.file.specs.declared.Verdict.the-variants.{Good, Bad}
 use Rattle.runner.specs.declared.run.Ran.{Ran}
 use Rattle.runner.specs.declared.run.Ran.the-variants.{Lines, Malformed, Short}
-use Rattle.runner.specs.File.{checked, stepsOf}
+use Rattle.file.specs.File.{checked, stepsOf}
 use Rattle.runner.specs.Line.{lineText, endText, badText, written}
-use Rattle.runner.specs.Profile.{profileIn}
-use Rattle.runner.specs.Step.{step}
+use Rattle.file.specs.Profile.{profileIn}
+use Rattle.step.specs.Step.{step}
+use Rattle.gear.specs.declared.answer.Answer.{Answer}
+use Rattle.gear.specs.declared.answer.Answer.the-variants.{Done}
 use Rattle.gear.specs.declared.answer.Outcome.{Outcome}
 use Rattle.gear.specs.declared.record.Gear.{Gear}
 use Rattle.gear.specs.Record.{newGear}
@@ -30,6 +32,11 @@ stateAfter steps g (suc k) = performed steps (stateAfter steps g k) k .gear
 unfoldable pub textAfter : List ℕ → Gear → ℕ → List ℕ
 textAfter steps g zero = []
 textAfter steps g (suc k) = textAfter steps g k ++ lineText (k + 1) (performed steps (stateAfter steps g k) k .answer)
+
+-- what the last of the first k steps answered
+unfoldable pub answerAfter : List ℕ → Gear → ℕ → Answer
+answerAfter steps g zero = Done
+answerAfter steps g (suc k) = performed steps (stateAfter steps g k) k .answer
 
 -- ## A file
 

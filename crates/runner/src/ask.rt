@@ -1,41 +1,33 @@
 // One more step on the record that a file's steps leave: what a host asks after a pause.
-use crate::file::Verdict;
-use crate::file::check;
-use crate::file::profile_of;
-use crate::file::steps;
-use crate::run::performed;
-use crate::step::step;
+use crate::follow::follow;
+use file::Verdict;
+use file::check;
+use file::profile_of;
+use file::steps;
 use gear::answer::Answer;
 use gear::answer::Refusal;
 use gear::record::Gear;
 ghost use mathlib.Core.Path.{_≡_};
-ghost use Prim.Native.Nat.{_*_, _≤_};
-ghost use lib.ListN.{length};
 ghost use Rattle.runner.specs.Ask.{asked};
-ghost use Rattle.runner.specs.Run.{stateAfter, lastOf};
+ghost use Rattle.file.specs.declared.Verdict.the-variants.{Good};
+ghost use Rattle.file.specs.File.{checked};
+ghost use Rattle.runner.specs.Run.{lastOf};
+ghost use Rattle.step.specs.Step.{step};
 
-// Every step in turn, without its line.
-fn state_after(gear: Gear, steps: &[u8], count: usize) -> Gear
-    requires { ⌜ (count ≤ 4096) × (count * 4 ≤ length (now steps)) ⌝ }
-    ensures { λ r. ⌜ r ≡ stateAfter (now (steps .entry)) gear count ⌝ }
-{
-    let mut state = gear;
-    let mut k: usize = 0;
-    while k < count {
-        let outcome = performed(state, steps, k);
-        state = outcome.gear;
-        k += 1;
-    }
-    state
-}
-
-fn last_gear(file: &[u8]) -> Gear
-    ensures { λ r. ⌜ r ≡ lastOf (now (file .entry)) ⌝ }
+// One more step on the record that the steps of a well-formed file leave. No lines are wanted, so none of the byte is written.
+fn answer_after(file: &[u8], kind: u8, a: u8, b: u8, c: u8) -> Answer
+    requires { ⌜ checked (now file) ≡ Good ⌝ }
+    ensures { λ r. ⌜ r ≡ step (lastOf (now (file .entry))) kind a b c .answer ⌝ }
 {
     let made = Gear::new(profile_of(file));
     let gear = made.gear;
     let steps = steps(file);
-    state_after(gear, steps, steps.len() / 4)
+    let mut none: [u8; 1] = [0];
+    let finished = follow(gear, steps, steps.len() / 4, false, &mut none);
+    let last = finished.gear;
+    let one = [kind, a, b, c];
+    let after = follow(last, &one, 1, false, &mut none);
+    after.answer
 }
 
 pub fn ask(file: &[u8], kind: u8, a: u8, b: u8, c: u8) -> Answer
@@ -44,10 +36,6 @@ pub fn ask(file: &[u8], kind: u8, a: u8, b: u8, c: u8) -> Answer
     let verdict = check(file);
     match verdict {
         Verdict::Bad(_) => Answer::Refused(Refusal::File),
-        Verdict::Good => {
-            let last = last_gear(file);
-            let outcome = step(last, kind, a, b, c);
-            outcome.answer
-        }
+        Verdict::Good => answer_after(file, kind, a, b, c),
     }
 }

@@ -28,29 +28,30 @@ fn digit(n: usize) -> u8
     (48 + n) as u8
 }
 
-// The last two digits of a number; below, its last three, four and five.
+// The two digits of a number below 100, zeros too; below, three, four, and the last five of any number.
+// Each function divides for its first digit, and hands the rest of that division on.
 fn put_two(buf: &mut [u8], at: usize, n: usize) -> usize
-    requires { ⌜ at + 2 ≤ length (now buf) ⌝ }
+    requires { ⌜ (n < 100) × (at + 2 ≤ length (now buf)) ⌝ }
     ensures { λ r. ⌜ Wrote (now (buf .entry)) at (lastTwo n) (now (buf .exit)) r ⌝ }
 {
-    let next = put(buf, at, digit(n / 10 % 10));
+    let next = put(buf, at, digit(n / 10));
     put(buf, next, digit(n % 10))
 }
 
 fn put_three(buf: &mut [u8], at: usize, n: usize) -> usize
-    requires { ⌜ at + 3 ≤ length (now buf) ⌝ }
+    requires { ⌜ (n < 1000) × (at + 3 ≤ length (now buf)) ⌝ }
     ensures { λ r. ⌜ Wrote (now (buf .entry)) at (digit (n / 100 % 10) ∷ lastTwo n) (now (buf .exit)) r ⌝ }
 {
-    let next = put(buf, at, digit(n / 100 % 10));
-    put_two(buf, next, n)
+    let next = put(buf, at, digit(n / 100));
+    put_two(buf, next, n % 100)
 }
 
 fn put_four(buf: &mut [u8], at: usize, n: usize) -> usize
-    requires { ⌜ at + 4 ≤ length (now buf) ⌝ }
+    requires { ⌜ (n < 10000) × (at + 4 ≤ length (now buf)) ⌝ }
     ensures { λ r. ⌜ Wrote (now (buf .entry)) at (digit (n / 1000 % 10) ∷ digit (n / 100 % 10) ∷ lastTwo n) (now (buf .exit)) r ⌝ }
 {
-    let next = put(buf, at, digit(n / 1000 % 10));
-    put_three(buf, next, n)
+    let next = put(buf, at, digit(n / 1000));
+    put_three(buf, next, n % 1000)
 }
 
 fn put_five(buf: &mut [u8], at: usize, n: usize) -> usize
@@ -58,7 +59,7 @@ fn put_five(buf: &mut [u8], at: usize, n: usize) -> usize
     ensures { λ r. ⌜ Wrote (now (buf .entry)) at (digit (n / 10000 % 10) ∷ digit (n / 1000 % 10) ∷ digit (n / 100 % 10) ∷ lastTwo n) (now (buf .exit)) r ⌝ }
 {
     let next = put(buf, at, digit(n / 10000 % 10));
-    put_four(buf, next, n)
+    put_four(buf, next, n % 10000)
 }
 
 // A number below 100,000, as all numbers here are, without leading zeros.

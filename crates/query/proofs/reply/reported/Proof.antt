@@ -1,22 +1,26 @@
--- `reply::reported` meets its contract: at each return the tests that led there decide the cases of `reported`.
-use Rattle.query.specs.Reply.{reported}
+-- `reply::reported` meets its contract: `reported-shown` says what is reported, by the callees.
 use borrow.Author.Needs.{needs}
+use Rattle.query.proofs.Parts.{reported-shown}
 use Rattle.query.proofs.reply.reported.Statement.{statement}
 use Rattle.query.proofs.reply.reported.Tie as tie
 
-is-dt8-requires : tie.Need-is-dt8-requires
-is-dt8-requires c κs = search needs
+reports-requires : tie.Need-reports-requires
+reports-requires c κs = search needs
 
-report-for-requires : tie.Need-report-for-requires
-report-for-requires c κs = search needs
+colour-at-requires : tie.Need-colour-at-requires
+colour-at-requires c κs = search needs
+
+shown-requires : tie.Need-shown-requires
+shown-requires c κs = search needs
+
+load-report-from-requires : tie.Need-load-report-from-requires
+load-report-from-requires c κs = search needs
 
 returns : tie.Need-returns
-unfolding reported
-returns c = simp (← c .report-for .ensures, c .before .if1 .taken, ← c .before .before .is-dt8 .ensures)
+returns c = simp (reported-shown, ← c .before .before .before .before .before .before .before .before .reports .ensures, c .before .before .before .before .before .before .before .if1 .taken, ← c .load-report-from .ensures, ← c .before .shown .ensures, ← c .before .before .colour-at .ensures)
 
 returns-2 : tie.Need-returns-2
-unfolding reported
-returns-2 c = simp (c .if1 .left, ← c .before .is-dt8 .ensures)
+returns-2 c = simp (reported-shown, ← c .before .reports .ensures, c .if1 .left)
 
 pub reported-spec : {M : Type 1} → statement M
-reported-spec = tie.close (tie.spec is-dt8-requires report-for-requires returns returns-2)
+reported-spec = tie.close (tie.spec reports-requires colour-at-requires shown-requires load-report-from-requires returns returns-2)

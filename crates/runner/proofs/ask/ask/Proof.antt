@@ -1,9 +1,6 @@
--- `ask::ask` meets its contract: the verdict decides, and the step is performed on the last record.
-use mathlib.Core.Path.{_≡_, ap, sym, _∙_}
-use Rattle.gear.specs.declared.answer.Outcome.{Outcome}
-use Rattle.gear.specs.declared.record.Gear.{Gear}
+-- `ask::ask` meets its contract: the verdict decides.
+use mathlib.Core.Path.{sym, _∙_}
 use Rattle.runner.specs.Ask.{asked}
-use Rattle.runner.specs.Step.{step}
 use borrow.Author.Needs.{needs}
 use Rattle.runner.proofs.ask.ask.Statement.{statement}
 use Rattle.runner.proofs.ask.ask.Tie as tie
@@ -17,11 +14,8 @@ enum-told c = search needs
 enum-told-2 : tie.Need-enum-told-2
 enum-told-2 c = search needs
 
-last-gear-requires : tie.Need-last-gear-requires
-last-gear-requires c κs = search needs
-
-step-requires : tie.Need-step-requires
-step-requires c κs = search needs
+answer-after-requires : tie.Need-answer-after-requires
+answer-after-requires c κs = sym (c .before .before .check .ensures) ∙ c .enum-told2 .given .1
 
 returns : tie.Need-returns
 unfolding asked
@@ -29,12 +23,7 @@ returns c = rw (sym (c .before .before .check .ensures) ∙ c .enum-told .given 
 
 returns-2 : tie.Need-returns-2
 unfolding asked
-returns-2 c =
-    let start = c .before .before .before .before .before .before in
-    let a = start .args in
-    rw (sym (c .before .before .before .before .check .ensures) ∙ c .before .before .enum-told2 .given .1)
-    (ap (λ (o : Outcome). o .answer)
-    (c .step .ensures ∙ ap (λ (x : Gear). step x (a .kind) (a .a) (a .b) (a .c)) (c .before .last-gear .ensures)))
+returns-2 c = rw (sym (c .before .before .before .check .ensures) ∙ c .before .enum-told2 .given .1) (c .answer-after .ensures)
 
 pub ask-spec : {M : Type 1} → statement M
 ask-spec =
@@ -43,7 +32,6 @@ ask-spec =
     check-requires
     enum-told
     enum-told-2
-    last-gear-requires
-    step-requires
+    answer-after-requires
     returns
     returns-2)

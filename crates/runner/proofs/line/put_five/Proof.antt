@@ -1,5 +1,6 @@
 -- `line::put_five` meets its contract: the first digit, and the others right behind it.
 use native.Mathlib.Omega.{arith}
+use Rattle.runner.proofs.Digits.{rest-four}
 use Rattle.runner.proofs.Written.{wrote-behind}
 use borrow.Author.Needs.{needs}
 use Rattle.runner.proofs.line.put_five.Statement.{statement}
@@ -22,7 +23,8 @@ returns c =
     let others = c .before .before in
     let first = others .before .before .before .before in
     let start = first .before .before .before .before in
-    wrote-behind (omega (arith, start .pre)) (rw (first .before .digit .ensures) at (first .put .ensures)) (others .put-four .ensures)
+    wrote-behind (omega (arith, start .pre)) (rw (first .before .digit .ensures) at (first .put .ensures))
+    (rw (rest-four (start .args .n)) at (others .put-four .ensures))
 
 pub put-five-spec : {M : Type 1} → statement M
 put-five-spec =

@@ -1,5 +1,8 @@
 -- `line::put_three` meets its contract: the first digit, and the others right behind it.
 use native.Mathlib.Omega.{arith}
+use mathlib.Core.Path.{_≡_}
+use Prim.Native.Nat.{_/_, _%_}
+use Rattle.runner.proofs.Digits.{rest-two}
 use Rattle.runner.proofs.Written.{wrote-behind}
 use borrow.Author.Needs.{needs}
 use Rattle.runner.proofs.line.put_three.Statement.{statement}
@@ -22,7 +25,10 @@ returns c =
     let others = c .before .before in
     let first = others .before .before .before .before in
     let start = first .before .before .before .before in
-    wrote-behind (omega (arith, start .pre)) (rw (first .before .digit .ensures) at (first .put .ensures)) (others .put-two .ensures)
+    let n = start .args .n in
+    let one : n / 100 ≡ n / 100 % 10 = omega (arith, start .pre) in
+    wrote-behind (omega (arith, start .pre)) (rw (first .before .digit .ensures, one) at (first .put .ensures))
+    (rw (rest-two n) at (others .put-two .ensures))
 
 pub put-three-spec : {M : Type 1} → statement M
 put-three-spec =

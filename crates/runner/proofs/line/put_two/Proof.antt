@@ -1,5 +1,7 @@
 -- `line::put_two` meets its contract: one digit right behind the other.
 use native.Mathlib.Omega.{arith}
+use mathlib.Core.Path.{_≡_}
+use Prim.Native.Nat.{_/_, _%_}
 use Rattle.runner.proofs.Written.{wrote-behind}
 use borrow.Author.Needs.{needs}
 use Rattle.runner.proofs.line.put_two.Statement.{statement}
@@ -25,7 +27,9 @@ returns c =
     let second = c .before .before in
     let first = second .before .before .before .before .before in
     let start = first .before .before .before .before in
-    wrote-behind (omega (arith, start .pre)) (rw (first .before .digit .ensures) at (first .put .ensures))
+    let n = start .args .n in
+    let one : n / 10 ≡ n / 10 % 10 = omega (arith, start .pre) in
+    wrote-behind (omega (arith, start .pre)) (rw (first .before .digit .ensures, one) at (first .put .ensures))
     (rw (second .before .digit2 .ensures) at (second .put2 .ensures))
 
 pub put-two-spec : {M : Type 1} → statement M

@@ -2,13 +2,13 @@
 use borrow.Author.Needs.{needs}
 use native.Mathlib.Omega.{arith}
 use mathlib.Core.Path.{_≡_, ap, sym, _∙_}
-use Rattle.runner.specs.declared.file.Verdict.{Verdict}
-use Rattle.runner.specs.declared.file.Verdict.the-variants.{Good, Bad}
-use Rattle.runner.specs.File.{checked}
+use Rattle.file.specs.declared.Verdict.{Verdict}
+use Rattle.file.specs.declared.Verdict.the-variants.{Good, Bad}
+use Rattle.file.specs.File.{checked}
 use Rattle.runner.specs.Run.{printedAs}
 use Rattle.runner.specs.Line.{badText}
 use Rattle.runner.proofs.Lines.{bad-length}
-use Rattle.runner.proofs.Offset.{offset-within}
+use Rattle.file.proofs.Offset.{offset-within}
 use Rattle.runner.proofs.Whole.{room-is, reported-all, reported-none, beside}
 use Rattle.runner.proofs.run.report.Statement.{statement}
 use Rattle.runner.proofs.run.report.Tie as tie
@@ -42,8 +42,9 @@ enum-told c = search needs
 
 put-lines-requires : tie.Need-put-lines-requires
 put-lines-requires c κs =
-    let at = c .before .before .before .before in
-    omega (arith, at .if1 .left, at .before .room .ensures)
+    let checks = c .before .before .before in
+    let at = checks .before in
+    (sym (checks .check .ensures) ∙ c .before .enum-told .given .1, omega (arith, at .if1 .left, at .before .room .ensures))
 
 same-length : tie.Need-same-length
 same-length c = search needs

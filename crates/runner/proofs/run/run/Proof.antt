@@ -2,9 +2,9 @@
 use borrow.Author.Needs.{needs}
 use native.Mathlib.Omega.{arith}
 use mathlib.Core.Path.{_≡_, ap, sym, _∙_}
-use Rattle.runner.specs.declared.file.Verdict.{Verdict}
-use Rattle.runner.specs.declared.file.Verdict.the-variants.{Good, Bad}
-use Rattle.runner.specs.File.{checked}
+use Rattle.file.specs.declared.Verdict.{Verdict}
+use Rattle.file.specs.declared.Verdict.the-variants.{Good, Bad}
+use Rattle.file.specs.File.{checked}
 use Rattle.runner.specs.Run.{printedAs}
 use Rattle.runner.proofs.Whole.{reported-all, reported-none, served-good, served-bad, beside}
 use Rattle.runner.proofs.run.run.Statement.{statement}
@@ -36,7 +36,8 @@ returns c =
 
 put-lines-requires : tie.Need-put-lines-requires
 put-lines-requires c κs =
-    omega (arith, c .before .if1 .left, c .before .before .room .ensures)
+    let at = c .before .before .before in
+    (sym (at .before .before .check .ensures) ∙ at .enum-told .given .1, omega (arith, c .before .if1 .left, c .before .before .room .ensures))
 
 returns-2 : tie.Need-returns-2
 returns-2 c =

@@ -1,0 +1,4 @@
+pub mod Accepted
+pub mod Lowest
+pub mod Offset
+pub mod Shape

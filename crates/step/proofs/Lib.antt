@@ -1,0 +1,2 @@
+pub mod OnFit
+pub mod Slots
