@@ -4,6 +4,7 @@ pub mod Bytes
 pub mod Demands
 pub mod Exactly
 pub mod Given
+pub mod Impostors
 pub mod Kept
 pub mod Named
 pub mod Outcome

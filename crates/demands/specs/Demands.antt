@@ -43,7 +43,7 @@ pub record Demands : Type 1 where
   pub keeps-fit : KeepsFit
   pub keeps-bounds : KeepsBounds
   pub power-cycle : PowerCycleBreaks
-  -- no answer outside the banks depends on a bank byte
-  pub keeps-blind : KeepsBlind
+  -- no answer or field outside the banks depends on a bank byte
+  pub keeps-blind : KeepsBlind perform
   -- P1 to P13
-  pub readings : Readings
+  pub readings : Readings perform

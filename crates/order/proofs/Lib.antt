@@ -1,6 +1,7 @@
 pub mod Bytes
 pub mod Columns
 pub mod EveryOrder
+pub mod Ignored
 pub mod Kept
 pub mod Needed
 pub mod Orders

@@ -1,6 +1,7 @@
 pub mod Bytes
 pub mod Carry
 pub mod Examples
+pub mod Ignored
 pub mod Keys
 pub mod Later
 pub mod Lists
