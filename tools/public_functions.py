@@ -37,3 +37,21 @@ def below(crate, file, folder, path):
 def all_functions():
     for library in sorted(CRATES.glob("*/src/lib.rt")):
         yield from below(library.parent.parent.name, library, library.parent, [])
+
+
+# What takes a record and is no call: the test itself, and what calls are made of.
+NO_CALLS = {
+    "gear::record::Gear::fit": "the test that every call makes",
+    "gear::answer::done": "an outcome of a call, made of its parts",
+    "gear::answer::refused": "an outcome of a call, made of its parts",
+    "gear::serve::tell": "the test around a call that only answers",
+}
+
+
+def takes_record(function):
+    own = "self" in function.params and function.path[-2:-1] == ["Gear"]
+    return own or any(re.search(r":\s*Gear$", param) for param in function.params)
+
+
+def is_call(function):
+    return takes_record(function) and "::".join([function.crate] + function.path) not in NO_CALLS
