@@ -1,21 +1,19 @@
 -- The tests of the code say what specs/Fit says: `accepted` of every profile, `fitb` of every record.
-use Prim.Native.Nat.{ℕ, _≤_, _<_}
+use Prim.Native.Nat.{ℕ, _≤_}
 use mathlib.Core.Path.{_≡_, refl, sym, _∙_}
 use mathlib.Core.Bool.{Bool, true, false}
 use mathlib.Core.List.{List, [], _∷_, List·Memᴰ as Among, List·Memᴰ·head, List·Memᴰ·tail, List·Memᴰ·not-nil}
 use mathlib.Core.Logic.{_↔_}
-use lib.Dec.{eqb, leb, ltb}
+use lib.Dec.{eqb, leb}
 use lib.ListN.{take}
 use native.Mathlib.Omega.{arith}
-use borrow.Author.Tests.{le-leb, lt-ltb, eq-eqb, leb-true, ltb-true, eqb-true, eqb-false}
-use Rattle.demands.specs.Fit.{AcceptedUpTo, Accepted, OfType, Floor, Effective, profileOf, Fit}
+use borrow.Author.Tests.{le-leb, eq-eqb, leb-true, eqb-true, eqb-false}
+use Rattle.demands.specs.Fit.{Accepted, OfType, Floor, Effective, Fit}
 use Rattle.colour.specs.declared.limits.Limits.{Limits}
-use Rattle.colour.specs.declared.record.Colour.{Colour}
 use Rattle.colour.specs.declared.tint.ColorMode.{ColorMode}
 use Rattle.colour.specs.declared.tint.ColorMode.the-variants.{None, Cct, Xy, Rgb}
 use Rattle.colour.specs.declared.tint.Tint.{Tint}
-use Rattle.colour.specs.Limits.{effectiveCoolest, effectiveWarmest, limitsFit}
-use Rattle.colour.specs.Record.{fitb as colourFit}
+use Rattle.colour.specs.Limits.{effectiveCoolest, effectiveWarmest}
 use Rattle.colour.specs.Tint.{isCct, liesWithin}
 use Rattle.gear.specs.declared.marks.Walk.{Walk}
 use Rattle.gear.specs.declared.marks.Walk.the-variants.{Off, At}
@@ -28,8 +26,7 @@ use Rattle.gear.specs.Marks.{walkFit}
 use Rattle.gear.specs.Profile.{accepted, floor, isType, shortFit, unitFit}
 use Rattle.gear.specs.Record.{fitb}
 use Rattle.gear.specs.Types.{hasType, member}
-use Rattle.level.specs.declared.levels.Levels.{Levels}
-use Rattle.level.specs.Levels.{levelsFit}
+use Rattle.gear.proofs.Fit.{facts, fit as gear-fit}
 use Rattle.numbers.specs.Numbers.{both, pick}
 use Rattle.numbers.proofs.Logic.{by-cases, both-true, both-left, both-right, no-false}
 
@@ -41,16 +38,9 @@ Exactly A test = A ↔ (test ≡ true)
 at-most : (a b : ℕ) → Exactly (a ≤ b) (leb a b)
 at-most a b = (le-leb a b, leb-true a b)
 
-below : (a b : ℕ) → Exactly (a < b) (ltb a b)
-below a b = (lt-ltb a b, ltb-true a b)
-
 also : {A B : Type 0} {a b : Bool} → Exactly A a → Exactly B b → Exactly (A × B) (both a b)
 also {a = a} {b = b} p q =
     (λ w. both-true (p .0 (w .0)) (q .0 (w .1)), λ e. (p .1 (both-left a b e), q .1 (both-right a b e)))
-
--- the same test of a statement in other words
-worded : {A B : Type 0} {test : Bool} → Exactly A test → (B → A) → (A → B) → Exactly B test
-worded p to from = (λ b. p .0 (to b), λ e. from (p .1 e))
 
 pub fails : {A : Type 0} {test : Bool} → A ↔ (test ≡ true) → (A → ⊥) → test ≡ false
 fails {test = test} p n = by-cases test (λ e. absurd (n (p .1 e))) (λ e. e)
@@ -107,27 +97,49 @@ module _ (stored physical : ℕ) where
       by-cases (eqb stored 65535) (λ e. rw e (f .replaced (eqb-true stored 65535 e)))
       (λ e. rw e (f .own (eqb-false stored 65535 e)))
 
--- ## The clauses, in the order of the tests
+module _ (l : Limits) where
+  the-coolest : Effective (l .stored .coolest) (l .physical .coolest) (effectiveCoolest l)
+  unfolding effectiveCoolest
+  the-coolest = the-effective (l .stored .coolest) (l .physical .coolest)
 
-abbrev ShortSo : Short → Type 0
-ShortSo s = (address : ℕ) → s ≡ Address address → address ≤ 63
+  the-warmest : Effective (l .stored .warmest) (l .physical .warmest) (effectiveWarmest l)
+  unfolding effectiveWarmest
+  the-warmest = the-effective (l .stored .warmest) (l .physical .warmest)
 
-short-exactly : (s : Short) → Exactly (ShortSo s) (shortFit s)
+  only-coolest : {n : ℕ} → Effective (l .stored .coolest) (l .physical .coolest) n → n ≡ effectiveCoolest l
+  unfolding effectiveCoolest
+  only-coolest f = only-effective (l .stored .coolest) (l .physical .coolest) f
+
+  only-warmest : {n : ℕ} → Effective (l .stored .warmest) (l .physical .warmest) n → n ≡ effectiveWarmest l
+  unfolding effectiveWarmest
+  only-warmest f = only-effective (l .stored .warmest) (l .physical .warmest) f
+
+-- ## The clauses on an address, a walk, a colour and a unit
+
+short-exactly : (s : Short) → Exactly ((a : ℕ) → s ≡ Address a → a ≤ 63) (shortFit s)
 unfolding shortFit
 short-exactly Missing = (λ h. refl, λ e a m. let no : _≡_ {A = ℕ} 0 1 = cc in omega arith)
 short-exactly (Address n) = (λ h. le-leb n 63 (h n refl), λ e a m. let same : n ≡ a = cc in omega (arith, leb-true n 63 e))
 
-abbrev WalkSo : Walk → Type 0
-WalkSo w = (place : ℕ) → w ≡ At place → place ≤ 16
-
-walk-exactly : (w : Walk) → Exactly (WalkSo w) (walkFit w)
+walk-exactly : (w : Walk) → Exactly ((n : ℕ) → w ≡ At n → n ≤ 16) (walkFit w)
 unfolding walkFit
 walk-exactly Off = (λ h. refl, λ e n m. let no : _≡_ {A = ℕ} 0 1 = cc in omega arith)
 walk-exactly (At k) = (λ h. le-leb k 16 (h k refl), λ e n m. let same : k ≡ n = cc in omega (arith, leb-true k 16 e))
 
+mode-exactly : {A : Type 0} {test : Bool} (m : ColorMode) → Exactly A test → Exactly (m ≡ Cct → A) (pick (isCct m) test true)
+mode-exactly None p = (λ h. refl, λ e z. let no : _≡_ {A = ℕ} 0 1 = cc in absurd (omega arith))
+mode-exactly Xy p = (λ h. refl, λ e z. let no : _≡_ {A = ℕ} 0 1 = cc in absurd (omega arith))
+mode-exactly Cct p = (λ h. p .0 (h refl), λ e z. p .1 e)
+mode-exactly Rgb p = (λ h. refl, λ e z. let no : _≡_ {A = ℕ} 0 1 = cc in absurd (omega arith))
+
+active-exactly : (t : Tint) (l : Limits) → Exactly (t .mode ≡ Cct → (effectiveCoolest l ≤ t .tc) × (t .tc ≤ effectiveWarmest l)) (liesWithin t l)
+unfolding liesWithin
+active-exactly t l = mode-exactly (t .mode) (also (at-most (effectiveCoolest l) (t .tc)) (at-most (t .tc) (effectiveWarmest l)))
+
 abbrev UnitSo : ℕ → Unit → Type 0
 UnitSo most u =
-    (u .count ≤ most) × ((u .random ≤ 16777215) × ((1 ≤ u .minimum) × ((u .minimum ≤ 254) × ShortSo (u .short))))
+    (u .count ≤ most) ×
+    ((u .random ≤ 16777215) × ((1 ≤ u .minimum) × ((u .minimum ≤ 254) × ((a : ℕ) → u .short ≡ Address a → a ≤ 63))))
 
 unit-exactly : (most : ℕ) (u : Unit) → Exactly (UnitSo most u) (unitFit most u)
 unfolding unitFit
@@ -136,128 +148,78 @@ unit-exactly most u =
     (also (at-most (u .random) 16777215)
     (also (at-most 1 (u .minimum)) (also (at-most (u .minimum) 254) (short-exactly (u .short)))))
 
-abbrev LevelsSo : ℕ → Levels → Type 0
-LevelsSo low l = (low ≤ l .min) × ((l .min ≤ l .max) × (l .max ≤ 254))
-
-levels-exactly : (low : ℕ) (l : Levels) → Exactly (LevelsSo low l) (levelsFit low l)
-unfolding levelsFit
-levels-exactly low l = also (at-most low (l .min)) (also (at-most (l .min) (l .max)) (at-most (l .max) 254))
-
-abbrev LimitsSo : Limits → Type 0
-LimitsSo l =
-    (l .physical .coolest ≤ effectiveCoolest l) ×
-    ((effectiveCoolest l ≤ effectiveWarmest l) × ((effectiveWarmest l ≤ l .physical .warmest) × (l .physical .warmest < 65535)))
-
-limits-exactly : (l : Limits) → Exactly (LimitsSo l) (limitsFit l)
-unfolding limitsFit
-limits-exactly l =
-    also (at-most (l .physical .coolest) (effectiveCoolest l))
-    (also (at-most (effectiveCoolest l) (effectiveWarmest l))
-    (also (at-most (effectiveWarmest l) (l .physical .warmest)) (below (l .physical .warmest) 65535)))
-
-mode-exactly : {A : Type 0} {test : Bool} (m : ColorMode) → Exactly A test → Exactly (m ≡ Cct → A) (pick (isCct m) test true)
-mode-exactly None p = (λ h. refl, λ e z. let no : _≡_ {A = ℕ} 0 1 = cc in absurd (omega arith))
-mode-exactly Xy p = (λ h. refl, λ e z. let no : _≡_ {A = ℕ} 0 1 = cc in absurd (omega arith))
-mode-exactly Cct p = (λ h. p .0 (h refl), λ e z. p .1 e)
-mode-exactly Rgb p = (λ h. refl, λ e z. let no : _≡_ {A = ℕ} 0 1 = cc in absurd (omega arith))
-
-abbrev ActiveSo : Tint → Limits → Type 0
-ActiveSo t l = t .mode ≡ Cct → (effectiveCoolest l ≤ t .tc) × (t .tc ≤ effectiveWarmest l)
-
-active-exactly : (t : Tint) (l : Limits) → Exactly (ActiveSo t l) (liesWithin t l)
-unfolding liesWithin
-active-exactly t l = mode-exactly (t .mode) (also (at-most (effectiveCoolest l) (t .tc)) (at-most (t .tc) (effectiveWarmest l)))
-
-abbrev ColourSo : Colour → Type 0
-ColourSo c = (c .can .channels ≤ 6) × (LimitsSo (c .limits) × ActiveSo (c .active) (c .limits))
-
-colour-exactly : (c : Colour) → Exactly (ColourSo c) (colourFit c)
-unfolding colourFit
-colour-exactly c = also (at-most (c .can .channels) 6) (also (limits-exactly (c .limits)) (active-exactly (c .active) (c .limits)))
-
 -- ## Accepted, and fit
 
 pub accepted-exactly : (p : Profile) → Accepted p ↔ (accepted p ≡ true)
 unfolding accepted
 accepted-exactly p =
-    worded
-    (also (at-most (p .can .channels) 6)
-    (also (at-most (p .coolest) (p .warmest)) (also (at-most (p .warmest) 65534) (unit-exactly 13 (p .unit)))))
-    (λ a.
-    (a .channels, (a .limits .0, (omega arith, (a .types, (a .random, (a .minimum .0, (a .minimum .1, a .short))))))))
-    (λ w.
-    let u = w .1 .1 .1 in
-    record {
-      types = u .0;
-      channels = w .0;
-      short = u .1 .1 .1 .1;
-      random = u .1 .0;
-      minimum = (u .1 .1 .0, u .1 .1 .1 .0);
-      limits = (w .1 .0, omega arith);
-    })
-
-abbrev FitSo : Gear → Type 0
-FitSo g = UnitSo 16 (g .unit) × (LevelsSo (floor (g .unit)) (g .levels) × (ColourSo (g .colour) × WalkSo (g .marks .walk)))
-
-tested : (g : Gear) → Exactly (FitSo g) (fitb g)
-unfolding fitb
-tested g =
-    also (unit-exactly 16 (g .unit))
-    (also (levels-exactly (floor (g .unit)) (g .levels)) (also (colour-exactly (g .colour)) (walk-exactly (g .marks .walk))))
+    let test =
+    also (at-most (p .can .channels) 6)
+    (also (at-most (p .coolest) (p .warmest)) (also (at-most (p .warmest) 65534) (unit-exactly 13 (p .unit)))) in (
+      λ a. test .0 (omega arith, (omega arith, (omega arith, (omega arith, (omega arith, (omega arith, (omega arith, a .short))))))),
+      λ e.
+          let t = test .1 e in
+          record {
+            types = omega arith;
+            channels = omega arith;
+            short = t .1 .1 .1 .1 .1 .1 .1;
+            random = omega arith;
+            minimum = (omega arith, omega arith);
+            limits = (omega arith, omega arith);
+          },
+    )
 
 module _ (g : Gear) where
-  so : Fit g → FitSo g
-  unfolding effectiveCoolest effectiveWarmest
-  so f =
-      let p = f .profile in
-      let l = g .colour .limits in
-      let low = only-floor (g .unit) (f .floor-is) in
-      let cool = only-effective (l .stored .coolest) (l .physical .coolest) (f .coolest-is) in
-      let warm = only-effective (l .stored .warmest) (l .physical .warmest) (f .warmest-is) in (
-        (p .types, (p .random, (p .minimum .0, (p .minimum .1, p .short)))),
-        (
-          (rw low at (f .levels .0), (f .levels .1, f .levels .2)),
-          (
-            (
-              p .channels,
-              (
-                (rw cool at (f .limits .0), (rw (cool, warm) at (f .limits .1), (rw warm at (f .limits .2), p .limits .1))),
-                λ m. (rw cool at (f .active m .0), rw warm at (f .active m .1)),
-              ),
-            ),
-            f .walk,
-          ),
-        ),
-      )
+  abbrev limits : Limits
+  limits = g .colour .limits
 
-  fit : FitSo g → Fit g
-  unfolding effectiveCoolest effectiveWarmest
-  fit w =
-      let u = w .0 in
-      let l = g .colour .limits in
-      let c = w .1 .1 .0 in
-      let o = c .1 .0 in
+  so : Fit g → fitb g ≡ true
+  so f =
+      let low = only-floor (g .unit) (f .floor-is) in
+      let cool = only-coolest limits (f .coolest-is) in
+      let warm = only-warmest limits (f .warmest-is) in
+      gear-fit
+      (record {
+        unit =
+            unit-exactly 16 (g .unit) .0
+            (omega arith, (omega arith, (omega arith, (omega arith, λ a m. omega (arith, f .profile .short a m)))));
+        levels = record { low = omega arith; order = omega arith; high = omega arith };
+        colour =
+            record {
+              channels = omega arith;
+              limits = record { cool = omega arith; order = omega arith; warm = omega arith; below = omega arith };
+              active = active-exactly (g .colour .active) limits .0 (λ m. (omega (arith, f .active m .0), omega (arith, f .active m .1)));
+            };
+        walk = walk-exactly (g .marks .walk) .0 (λ n m. omega (arith, f .walk n m));
+      })
+
+  fit : fitb g ≡ true → Fit g
+  fit e =
+      let t = facts g e in
+      let unit = unit-exactly 16 (g .unit) .1 (t .unit) in
+      let active = active-exactly (g .colour .active) limits .1 (t .colour .active) in
+      let walk = walk-exactly (g .marks .walk) .1 (t .walk) in
       record {
         floor = floor (g .unit);
-        coolest = effectiveCoolest l;
-        warmest = effectiveWarmest l;
+        coolest = effectiveCoolest limits;
+        warmest = effectiveWarmest limits;
         floor-is = the-floor (g .unit);
-        coolest-is = the-effective (l .stored .coolest) (l .physical .coolest);
-        warmest-is = the-effective (l .stored .warmest) (l .physical .warmest);
+        coolest-is = the-coolest limits;
+        warmest-is = the-warmest limits;
         profile =
             record {
-              types = u .0;
-              channels = c .0;
-              short = u .1 .1 .1 .1;
-              random = u .1 .0;
-              minimum = (u .1 .1 .0, u .1 .1 .1 .0);
-              limits = (omega arith, o .1 .1 .1);
+              types = omega arith;
+              channels = omega arith;
+              short = λ a m. omega (arith, unit .1 .1 .1 .1 a m);
+              random = omega arith;
+              minimum = (omega arith, omega arith);
+              limits = (omega arith, omega arith);
             };
-        levels = (w .1 .0 .0, w .1 .0 .1 .0, w .1 .0 .1 .1);
-        limits = (o .0, o .1 .0, o .1 .1 .0);
-        active = c .1 .1;
-        walk = w .1 .1 .1;
+        levels = (omega arith, omega arith, omega arith);
+        limits = (omega arith, omega arith, omega arith);
+        active = λ m. (omega (arith, active m .0), omega (arith, active m .1));
+        walk = λ n m. omega (arith, walk n m);
       }
 
 pub fit-exactly : (g : Gear) → Fit g ↔ (fitb g ≡ true)
-fit-exactly g = worded (tested g) (so g) (fit g)
+fit-exactly g = (so g, fit g)
