@@ -80,7 +80,8 @@ module _ (u : Unit) where
   only-floor : {n : ℕ} → Floor u n → n ≡ floor u
   unfolding floor
   only-floor f =
-      by-cases (isType u 7) (λ e. rw e (f .switching (type-exactly u 7 .1 e))) (λ e. rw e (f .other (denies (type-exactly u 7) e)))
+      by-cases (isType u 7) (λ e. rw e (f .switching (type-exactly u 7 .1 e)))
+      (λ e. rw e (f .other (denies (type-exactly u 7) e)))
 
 module _ (stored physical : ℕ) where
   abbrev chosen : ℕ
@@ -132,7 +133,9 @@ mode-exactly Xy p = (λ h. refl, λ e z. let no : _≡_ {A = ℕ} 0 1 = cc in ab
 mode-exactly Cct p = (λ h. p .0 (h refl), λ e z. p .1 e)
 mode-exactly Rgb p = (λ h. refl, λ e z. let no : _≡_ {A = ℕ} 0 1 = cc in absurd (omega arith))
 
-active-exactly : (t : Tint) (l : Limits) → Exactly (t .mode ≡ Cct → (effectiveCoolest l ≤ t .tc) × (t .tc ≤ effectiveWarmest l)) (liesWithin t l)
+active-exactly :
+    (t : Tint) (l : Limits) →
+    Exactly (t .mode ≡ Cct → (effectiveCoolest l ≤ t .tc) × (t .tc ≤ effectiveWarmest l)) (liesWithin t l)
 unfolding liesWithin
 active-exactly t l = mode-exactly (t .mode) (also (at-most (effectiveCoolest l) (t .tc)) (at-most (t .tc) (effectiveWarmest l)))
 
@@ -150,24 +153,33 @@ unit-exactly most u =
 
 -- ## Accepted, and fit
 
-pub accepted-exactly : (p : Profile) → Accepted p ↔ (accepted p ≡ true)
+accepted-tests :
+    (p : Profile) →
+    Exactly ((p .can .channels ≤ 6) × ((p .coolest ≤ p .warmest) × ((p .warmest ≤ 65534) × UnitSo 13 (p .unit)))) (accepted p)
 unfolding accepted
-accepted-exactly p =
-    let test =
+accepted-tests p =
     also (at-most (p .can .channels) 6)
-    (also (at-most (p .coolest) (p .warmest)) (also (at-most (p .warmest) 65534) (unit-exactly 13 (p .unit)))) in (
-      λ a. test .0 (omega arith, (omega arith, (omega arith, (omega arith, (omega arith, (omega arith, (omega arith, a .short))))))),
-      λ e.
-          let t = test .1 e in
-          record {
-            types = omega arith;
-            channels = omega arith;
-            short = t .1 .1 .1 .1 .1 .1 .1;
-            random = omega arith;
-            minimum = (omega arith, omega arith);
-            limits = (omega arith, omega arith);
-          },
-    )
+    (also (at-most (p .coolest) (p .warmest)) (also (at-most (p .warmest) 65534) (unit-exactly 13 (p .unit))))
+
+pub accepted-exactly : (p : Profile) → Accepted p ↔ (accepted p ≡ true)
+accepted-exactly p = (so, worded)
+  where
+    so : Accepted p → accepted p ≡ true
+    so a =
+        let unit : UnitSo 13 (p .unit) = (omega arith, (omega arith, (omega arith, (omega arith, a .short)))) in
+        accepted-tests p .0 (omega arith, (omega arith, (omega arith, unit)))
+
+    worded : accepted p ≡ true → Accepted p
+    worded e =
+        let t = accepted-tests p .1 e in
+        record {
+          types = omega arith;
+          channels = omega arith;
+          short = t .1 .1 .1 .1 .1 .1 .1;
+          random = omega arith;
+          minimum = (omega arith, omega arith);
+          limits = (omega arith, omega arith);
+        }
 
 module _ (g : Gear) where
   abbrev limits : Limits
@@ -188,13 +200,15 @@ module _ (g : Gear) where
             record {
               channels = omega arith;
               limits = record { cool = omega arith; order = omega arith; warm = omega arith; below = omega arith };
-              active = active-exactly (g .colour .active) limits .0 (λ m. (omega (arith, f .active m .0), omega (arith, f .active m .1)));
+              active =
+                  active-exactly (g .colour .active) limits .0
+                  (λ m. (omega (arith, f .active m .0), omega (arith, f .active m .1)));
             };
         walk = walk-exactly (g .marks .walk) .0 (λ n m. omega (arith, f .walk n m));
       })
 
-  fit : fitb g ≡ true → Fit g
-  fit e =
+  worded : fitb g ≡ true → Fit g
+  worded e =
       let t = facts g e in
       let unit = unit-exactly 16 (g .unit) .1 (t .unit) in
       let active = active-exactly (g .colour .active) limits .1 (t .colour .active) in
@@ -222,4 +236,4 @@ module _ (g : Gear) where
       }
 
 pub fit-exactly : (g : Gear) → Fit g ↔ (fitb g ≡ true)
-fit-exactly g = (so g, fit g)
+fit-exactly g = (so g, worded g)

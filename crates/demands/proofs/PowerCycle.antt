@@ -29,4 +29,10 @@ out (inr (low, high)) = omega arith
 
 pub power-cycle-breaks : PowerCycleBreaks
 unfolding perform accepted applyStandardWrite colourFit commandOf configCommand configWrite configured effectiveCoolest effectiveWarmest factory fitb fixed floor fresh freshGear hasType isType levelCommand levelsFit liesWithin limitsFit maxLevels member newGear powerCycle powerCycleCall powerUp readjust readjusts serve shortFit tell unitFit walkFit write
-power-cycle-breaks = record { gear = startOf led (setMaxLevel 200 ∷ []); fit = fit-exactly _ .1 refl; bounded = inl refl; broken = out }
+power-cycle-breaks =
+    record {
+      gear = startOf led (setMaxLevel 200 ∷ []);
+      fit = fit-exactly _ .1 refl;
+      bounded = inl refl;
+      broken = out;
+    }

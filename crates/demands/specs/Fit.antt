@@ -1,5 +1,6 @@
 -- When a profile is accepted and when a record is fit: document 01, 'Profile and fit record', clause by clause.
--- proofs/Fit.antt shows that the tests of the code say the same of every profile and of every record. `A → ⊥` reads 'not A'.
+-- proofs/Fit.antt shows that the tests of the code say the same of every profile and of every record.
+-- `A → ⊥` reads 'not A', and `(n : ℕ) → A` reads 'A, for each number n'.
 use Prim.Native.Nat.{ℕ, _≤_, _<_}
 use mathlib.Core.Path.{_≡_}
 use mathlib.Core.List.{List·Memᴰ as Among}
@@ -13,7 +14,7 @@ use Rattle.gear.specs.declared.record.Gear.{Gear}
 
 -- ## 'A profile is accepted exactly when'
 
--- with `most` for the 13 of a profile and the 16 of a record
+-- `most` is 13 for a profile, and 16 for that of a record
 pub record AcceptedUpTo (most : ℕ) (p : Profile) : Type 0 where
   -- 'at most 13 device types'
   pub types : p .unit .count ≤ most
@@ -31,7 +32,7 @@ pub record AcceptedUpTo (most : ℕ) (p : Profile) : Type 0 where
 abbrev pub Accepted : Profile → Type 0
 Accepted p = AcceptedUpTo 13 p
 
--- ## The words of the next sentence
+-- ## The floor and the effective limits
 
 -- the codes of a gear are the first `count` entries of its list, or the whole of a list that is shorter
 abbrev pub OfType : ℕ → Unit → Type 0
@@ -47,7 +48,7 @@ pub record Effective (stored physical effective : ℕ) : Type 0 where
   pub own : (stored ≡ 65535 → ⊥) → effective ≡ stored
   pub replaced : stored ≡ 65535 → effective ≡ physical
 
--- the profile that a record would be built from
+-- the profile of a record
 abbrev pub profileOf : Gear → Profile
 profileOf g =
     record {
@@ -60,7 +61,7 @@ profileOf g =
 -- ## 'A record is fit when'
 
 pub record Fit (g : Gear) : Type 0 where
-  -- its floor and its effective limits
+  -- the floor and the effective limits of the record
   pub floor : ℕ
   pub coolest : ℕ
   pub warmest : ℕ
