@@ -3,6 +3,7 @@ pub mod Blind
 pub mod Bytes
 pub mod Demands
 pub mod Exactly
+pub mod Fit
 pub mod Given
 pub mod Impostors
 pub mod Kept

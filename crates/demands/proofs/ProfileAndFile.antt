@@ -6,11 +6,12 @@ use mathlib.Core.List.{List}
 use lib.Dec.{leb}
 use lib.ListN.{length}
 use borrow.Author.Tests.{le-leb}
+use Rattle.demands.specs.Calls.{perform}
 use Rattle.demands.specs.Given.{ProfileJudged, RefusedAt, FileJudged}
 use Rattle.demands.specs.Refusals.{isRefusal}
+use Rattle.demands.proofs.Fit.{accepted-exactly as profile-exactly, fails}
 use Rattle.demands.proofs.Named.{unfit-given}
 use Rattle.gear.specs.declared.profile.Profile.{Profile}
-use Rattle.gear.specs.Profile.{accepted}
 use Rattle.gear.specs.Record.{newGear}
 use Rattle.gear.proofs.Built.{none-unfit}
 use Rattle.numbers.proofs.Logic.{by-cases, no-false}
@@ -23,14 +24,14 @@ use Rattle.runner.specs.Run.{printed, ran, ranInto, reported, reportedInto, roo
 use Rattle.file.proofs.Lowest.{accepted-exactly}
 use Rattle.runner.proofs.Whole.{reported-none, served-bad}
 
-pub profile-judged : (p : Profile) → ProfileJudged p
+pub profile-judged : (p : Profile) → ProfileJudged perform p
 unfolding newGear
 profile-judged p =
     record {
-      given = λ e. rw e;
-      only = λ r. by-cases (accepted p) (λ e. no-false (ap isRefusal (rw e at r))) (λ e. e);
-      useless = λ e c. unfit-given c (newGear p .gear) (rw e none-unfit);
-      built = λ e. rw e;
+      given = λ n. rw (fails (profile-exactly p) n);
+      only = λ r a. let e = profile-exactly p .0 a in no-false (ap isRefusal (rw e at r));
+      useless = λ n c. unfit-given c (newGear p .gear) (rw (fails (profile-exactly p) n) none-unfit);
+      built = λ a. rw (profile-exactly p .0 a);
     }
 
 bad-at : (v : Verdict) → isGood v ≡ false → (x : ℕ) × (v ≡ Bad x)

@@ -1,6 +1,7 @@
 pub mod Blind
 pub mod Calls
 pub mod Demands
+pub mod Fit
 pub mod Given
 pub mod Impostors
 pub mod Kept
