@@ -2,7 +2,7 @@
 use Prim.Native.Nat.{ℕ, _<_}
 use mathlib.Core.Path.{_≡_}
 use Rattle.demands.specs.Calls.{Behaviour, Call}
-use Rattle.demands.specs.Calls.Call.{Activate, StoreTcLimit, PowerCycle}
+use Rattle.demands.specs.Calls.Call.{StoreTcLimit, PowerCycle}
 use Rattle.demands.specs.Fit.{Fit}
 use Rattle.gear.specs.declared.record.Gear.{Gear}
 use Rattle.level.specs.Levels.{Bounded}

@@ -3,8 +3,7 @@
 use mathlib.Core.Path.{_≡_}
 use mathlib.Core.Bool.{Bool, true}
 use mathlib.Core.List.{List, List·Permᴰ}
-use Rattle.order.specs.Lists.{All, run}
-use Rattle.order.specs.Keys.{Keyed}
+use Rattle.order.specs.Lists.{run}
 use Rattle.order.specs.Premises.{Listed, Ready}
 use Rattle.order.specs.Writes.{Write, callOf}
 use Rattle.demands.specs.Calls.{Behaviour, Call, perform}
