@@ -8,6 +8,7 @@ use Rattle.demands.proofs.PowerCycle.{power-cycle-breaks}
 use Rattle.demands.proofs.Promises.{rule-promised}
 use Rattle.demands.proofs.Readings.{readings}
 use Rattle.demands.proofs.Runs.{runs}
+use Rattle.demands.proofs.Sessions.{sessions}
 use Rattle.demands.proofs.Steps.{stepped, step-exactly, unlisted-exactly}
 
 pub demands : Demands
@@ -33,5 +34,6 @@ demands =
       keeps-bounds = keeps-bounds;
       power-cycle = power-cycle-breaks;
       keeps-blind = keeps-blind;
+      sessions = sessions;
       readings = readings;
     }

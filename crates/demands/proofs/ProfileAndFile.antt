@@ -33,11 +33,11 @@ profile-judged p =
       built = λ e. rw e;
     }
 
-bad-at : (v : Verdict) → isGood v ≡ false → (x : ℕ) × (v ≡ Bad x)
+pub bad-at : (v : Verdict) → isGood v ≡ false → (x : ℕ) × (v ≡ Bad x)
 bad-at Good e = no-false (sym e)
 bad-at (Bad x) e = (x, refl)
 
-good-at : (v : Verdict) → isGood v ≡ true → v ≡ Good
+pub good-at : (v : Verdict) → isGood v ≡ true → v ≡ Good
 good-at Good e = refl
 good-at (Bad x) e = no-false e
 

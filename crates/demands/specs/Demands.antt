@@ -9,6 +9,7 @@ use Rattle.demands.specs.Kept.{KeepsFit, KeepsBounds, PowerCycleBreaks}
 use Rattle.demands.specs.Promises.{Promised, PromisedNew, PromisedStep}
 use Rattle.demands.specs.Refusals.{Judged, refusalOf}
 use Rattle.demands.specs.Runs.{Runs}
+use Rattle.demands.specs.Sessions.{Sessions}
 use Rattle.demands.specs.Steps.{entry, kinds, Stepped, stepRefusal}
 use Rattle.demands.specs.Table.{Readings}
 use Rattle.gear.specs.declared.answer.Outcome.{Outcome}
@@ -45,5 +46,7 @@ pub record Demands : Type 1 where
   pub power-cycle : PowerCycleBreaks
   -- no answer outside the banks depends on a bank byte
   pub keeps-blind : KeepsBlind
+  -- a session's lines are those of the rules applied step by step
+  pub sessions : Sessions
   -- P1 to P13
   pub readings : Readings

@@ -1,6 +1,7 @@
 pub mod Blind
 pub mod Calls
 pub mod Demands
+pub mod Example
 pub mod Given
 pub mod Kept
 pub mod Outcome
@@ -8,5 +9,6 @@ pub mod Promises
 pub mod Readings
 pub mod Refusals
 pub mod Runs
+pub mod Sessions
 pub mod Steps
 pub mod Table
