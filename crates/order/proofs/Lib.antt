@@ -1,6 +1,7 @@
 pub mod Bytes
 pub mod Columns
 pub mod EveryOrder
+pub mod Files
 pub mod Kept
 pub mod Needed
 pub mod Orders
@@ -13,3 +14,4 @@ pub mod Slots
 pub mod Swap
 pub mod Test
 pub mod Tied
+pub mod TwoFiles
