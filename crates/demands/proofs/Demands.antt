@@ -13,6 +13,7 @@ use Rattle.demands.proofs.PowerCycle.{power-cycle-breaks}
 use Rattle.demands.proofs.Promises.{promised-rule, rule-promised}
 use Rattle.demands.proofs.Readings.{readings}
 use Rattle.demands.proofs.Runs.{runs}
+use Rattle.demands.proofs.Sessions.{sessions}
 use Rattle.demands.proofs.Steps.{stepped, step-exactly, unlisted-exactly}
 use Rattle.gear.specs.declared.record.Gear.{Gear}
 
@@ -44,6 +45,7 @@ demands =
             steps = stepped;
             step-kinds = unlisted-exactly;
             step-exactly = step-exactly;
+            sessions = sessions;
             impostors = caught;
           };
       by-the-promises =

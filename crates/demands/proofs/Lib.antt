@@ -3,6 +3,7 @@ pub mod Blind
 pub mod Bytes
 pub mod Demands
 pub mod Exactly
+pub mod Example
 pub mod Fit
 pub mod Given
 pub mod Impostors
@@ -25,4 +26,6 @@ pub mod ProfileAndFile
 pub mod Promises
 pub mod Readings
 pub mod Runs
+pub mod Sessions
+pub mod StepByStep
 pub mod Steps

@@ -34,11 +34,11 @@ profile-judged p =
       built = λ a. rw (profile-exactly p .0 a);
     }
 
-bad-at : (v : Verdict) → isGood v ≡ false → (x : ℕ) × (v ≡ Bad x)
+pub bad-at : (v : Verdict) → isGood v ≡ false → (x : ℕ) × (v ≡ Bad x)
 bad-at Good e = no-false (sym e)
 bad-at (Bad x) e = (x, refl)
 
-good-at : (v : Verdict) → isGood v ≡ true → v ≡ Good
+pub good-at : (v : Verdict) → isGood v ≡ true → v ≡ Good
 good-at Good e = refl
 good-at (Bad x) e = no-false e
 

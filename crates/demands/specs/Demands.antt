@@ -13,6 +13,7 @@ use Rattle.demands.specs.Kept.{KeepsFit, KeepsBounds, PowerCycleBreaks}
 use Rattle.demands.specs.Promises.{Promised, PromisedNew, PromisedStep}
 use Rattle.demands.specs.Refusals.{Judged, RefusesExactly}
 use Rattle.demands.specs.Runs.{Runs}
+use Rattle.demands.specs.Sessions.{Sessions}
 use Rattle.demands.specs.Steps.{entry, kinds, Stepped, stepRefusal}
 use Rattle.demands.specs.Table.{Readings}
 use Rattle.gear.specs.declared.answer.Outcome.{Outcome}
@@ -47,7 +48,9 @@ pub record ByTheRules : Type 0 where
   pub steps : (g : Gear) (kind a b c : ℕ) → Stepped (entry (kinds a b c) kind) g (step g kind a b c)
   pub step-kinds : (kind a b c : ℕ) → (entry (kinds a b c) kind ≡ none → 12 < kind) × (12 < kind → entry (kinds a b c) kind ≡ none)
   pub step-exactly : (g : Gear) (kind a b c : ℕ) → Judged (stepRefusal (entry (kinds a b c) kind) g) g (step g kind a b c)
-  -- the impostors of document 01
+  -- a session's lines are those of the rules applied step by step
+  pub sessions : Sessions
+  -- the impostors of document 01 that take a record; the fifth is a runner, among the sessions
   pub impostors : Caught
 
 -- The Rattle functions, by their own promises alone

@@ -1,6 +1,7 @@
 pub mod Blind
 pub mod Calls
 pub mod Demands
+pub mod Example
 pub mod Fit
 pub mod Given
 pub mod Impostors
@@ -10,5 +11,6 @@ pub mod Promises
 pub mod Readings
 pub mod Refusals
 pub mod Runs
+pub mod Sessions
 pub mod Steps
 pub mod Table

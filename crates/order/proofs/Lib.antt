@@ -1,6 +1,7 @@
 pub mod Bytes
 pub mod Columns
 pub mod EveryOrder
+pub mod Files
 pub mod Ignored
 pub mod Kept
 pub mod Needed
@@ -14,3 +15,4 @@ pub mod Slots
 pub mod Swap
 pub mod Test
 pub mod Tied
+pub mod TwoFiles
