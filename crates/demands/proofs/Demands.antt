@@ -3,6 +3,7 @@ use Rattle.demands.specs.Demands.{Demands}
 use Rattle.demands.proofs.Blind.{keeps-blind}
 use Rattle.demands.proofs.Exactly.{exactly, promised-exactly}
 use Rattle.demands.proofs.Given.{refusals}
+use Rattle.demands.proofs.Host.{host}
 use Rattle.demands.proofs.Kept.{keeps-fit, keeps-bounds}
 use Rattle.demands.proofs.PowerCycle.{power-cycle-breaks}
 use Rattle.demands.proofs.Promises.{rule-promised}
@@ -28,6 +29,7 @@ demands =
             new = λ p o promise. promise;
             step-exactly = λ g kind a b c o promise. rw promise (step-exactly g kind a b c);
             runs = runs;
+            host = host;
           };
       keeps-fit = keeps-fit;
       keeps-bounds = keeps-bounds;

@@ -1,9 +1,11 @@
 pub mod Answers
+pub mod AskedByte
 pub mod Blind
 pub mod Bytes
 pub mod Demands
 pub mod Exactly
 pub mod Given
+pub mod Host
 pub mod Kept
 pub mod Named
 pub mod Outcome

@@ -2,6 +2,7 @@ pub mod Blind
 pub mod Calls
 pub mod Demands
 pub mod Given
+pub mod Host
 pub mod Kept
 pub mod Outcome
 pub mod Promises
