@@ -4,7 +4,8 @@ use gear::answer::Answer;
 use runner::ask::Asked;
 use runner::run::Ran;
 ghost use mathlib.Core.Path.{_≡_};
-ghost use Rattle.dali_gear.specs.Code.{answerCode, answerDetail, askedCode, askedDetail, ranCode, ranDetail, verdictCode, verdictDetail};
+ghost use Rattle.dali_gear.specs.Code.{answerCode, answerDetail, askedCode, askedDetail};
+ghost use Rattle.dali_gear.specs.Code.{ranCode, ranDetail, verdictCode, verdictDetail};
 
 const DONE: u32 = 0;
 

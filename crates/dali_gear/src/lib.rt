@@ -33,8 +33,8 @@ pub extern "C" fn dali_gear_room(file: &[u8]) -> usize
     runner::run::room(file)
 }
 
-// Runs a file. The detail is the bytes written, the offset of a fault in the file, which is judged before the buffer, or the bytes
-// that the buffer needs.
+// Runs a file. The detail is the bytes written, the offset of a malformed file's lowest fault, or the bytes that the buffer needs. The
+// file is judged before the buffer.
 #[no_mangle]
 pub extern "C" fn dali_gear_run(file: &[u8], out: &mut [u8], detail: &mut usize) -> u32
     ensures code { λ r. ⌜ r ≡ ranCode (ran (now (file .entry)) (length (now (out .entry)))) ⌝ }
@@ -46,8 +46,8 @@ pub extern "C" fn dali_gear_run(file: &[u8], out: &mut [u8], detail: &mut usize)
     ran_code(ran)
 }
 
-// Writes what the program `session` prints. For a malformed file that is the line `bad` with the offset, so the code is 0 and not 5.
-// The detail is the bytes written, or those that the buffer needs, which is judged before the file.
+// Writes what the program `session` prints. Of a malformed file that is the line `bad` with the offset, and the code is 0, never 5.
+// The detail is the bytes written, or those that the buffer needs. The buffer is judged before the file.
 #[no_mangle]
 pub extern "C" fn dali_gear_report(file: &[u8], out: &mut [u8], detail: &mut usize) -> u32
     ensures code { λ r. ⌜ r ≡ ranCode (reported (now (file .entry)) (length (now (out .entry)))) ⌝ }
@@ -59,7 +59,7 @@ pub extern "C" fn dali_gear_report(file: &[u8], out: &mut [u8], detail: &mut usi
     ran_code(ran)
 }
 
-// One more step on the record that the file's steps leave. The detail is the value, or the offset of a fault in the file.
+// One more step on the record that the file's steps leave. The detail is the value, or the offset of a malformed file's lowest fault.
 #[no_mangle]
 pub extern "C" fn dali_gear_ask(
     file: &[u8],

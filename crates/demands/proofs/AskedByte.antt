@@ -36,18 +36,22 @@ small-take (suc n) (x ∷ xs) zero h = h 0
 small-take (suc n) (x ∷ xs) (suc i) h = small-take n xs i (λ j. h (suc j))
 
 module _ (s : List ℕ) (bytes : (i : ℕ) → byte s i < 256) where
+  behind : (n i : ℕ) → getD (drop n s) i 0 < 256
+  behind n i = rw getD-drop (bytes (n + i))
+
   step-bytes : (i : ℕ) → getD (stepsOf s) i 0 < 256
   unfolding stepsOf
   step-bytes i =
       by-cases (wellFormed s)
-      (λ good. rw good (small-take (stepCount s (profileAt s) * 4) (drop (profileAt s + 14) s) i (λ j. rw getD-drop (bytes (profileAt s + 14 + j)))))
+      (λ good. rw good (small-take (stepCount s (profileAt s) * 4) (drop (profileAt s + 14) s) i (behind (profileAt s + 14))))
       (λ bad. rw bad (omega arith))
 
   state-fit : fitb (firstOf s) ≡ true → (k : ℕ) → fitb (stateAfter (stepsOf s) (firstOf s) k) ≡ true
   unfolding stateAfter performed
   state-fit first zero = first
   state-fit first (suc k) =
-      step-kept (stateAfter (stepsOf s) (firstOf s) k) _ _ _ (step-bytes (k * 4 + 2)) (step-bytes (k * 4 + 3)) (state-fit first k) _
+      let before = stateAfter (stepsOf s) (firstOf s) k in
+      step-kept before _ _ _ (step-bytes (k * 4 + 2)) (step-bytes (k * 4 + 3)) (state-fit first k) _
 
   last-fit : checked s ≡ Good → fitb (lastOf s) ≡ true
   last-fit good = state-fit (good-fit s bytes good) (countOf s)
@@ -77,7 +81,9 @@ unlisted-byte false = refl
 
 kinds-each : (a b c : ℕ) → Each (kinds a b c)
 kinds-each a b c =
-    (tt, (unlisted-byte (listed writeBytes a), (unlisted-byte (listed queryBytes a), (tt, (tt, (tt, (tt, (tt, (tt, (tt, (tt, (tt, (tt, tt)))))))))))))
+    let write = unlisted-byte (listed writeBytes a) in
+    let query = unlisted-byte (listed queryBytes a) in
+    (tt, (write, (query, (tt, (tt, (tt, (tt, (tt, (tt, (tt, (tt, (tt, (tt, tt)))))))))))))
 
 to-fit : (t : Option Call) (g : Gear) → fitb g ≡ true → OnlyByte (tabled t) → OnlyByte (stepRefusal t g)
 to-fit none g fit h = rw fit refl

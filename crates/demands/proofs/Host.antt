@@ -42,16 +42,18 @@ five-file (Refused Byte) e = absurd (omega arith)
 five-file (Refused Group) e = absurd (omega arith)
 five-file (Refused File) e = refl
 
-never-file : (t : Option Call) (g : Gear) (o : Outcome) → Stepped t g o → o .answer ≡ Refused File → ⊥
-never-file none g o e f =
-    by-cases (fitb g)
-    (λ fit. let same : Refused Byte ≡ Refused File = sym (ap (λ (x : Outcome). x .answer) (rw fit at e)) ∙ f in let z : _≡_ {A = ℕ} 0 1 = cc in omega arith)
-    (λ unfit. let same : Refused Unfit ≡ Refused File = sym (ap (λ (x : Outcome). x .answer) (rw unfit at e)) ∙ f in let z : _≡_ {A = ℕ} 0 1 = cc in omega arith)
-never-file (some call) g o e f = refusals .never-five .only call g (sym (ap (λ (x : Outcome). x .answer) e) ∙ f)
+stepped-not-five : (t : Option Call) (g : Gear) (o : Outcome) → Stepped t g o → answerCode (o .answer) ≡ 5 → ⊥
+unfolding answerCode
+stepped-not-five none g o e five =
+    let told = ap (λ (x : Outcome). answerCode (x .answer)) e in
+    by-cases (fitb g) (λ fit. omega (arith, rw fit at told)) (λ unfit. omega (arith, rw unfit at told))
+stepped-not-five (some call) g o e five =
+    refusals .never-five .only call g (sym (ap (λ (x : Outcome). x .answer) e) ∙ five-file (o .answer) five)
 
 step-not-five : (g : Gear) (kind a b c : ℕ) → answerCode (step g kind a b c .answer) ≡ 5 → ⊥
-step-not-five g kind a b c e =
-    never-file (entry (kinds a b c) kind) g (step g kind a b c) (stepped g kind a b c) (five-file (step g kind a b c .answer) e)
+step-not-five g kind a b c five = stepped-not-five (entry (kinds a b c) kind) g (step g kind a b c) (stepped g kind a b c) five
+
+-- ## Of the numbers 1 to 4 it is refused with 3 only
 
 code-refused : (a : Answer) → 0 < answerCode a → answerCode a < 5 → (r : Refusal) × (a ≡ Refused r)
 unfolding answerCode
@@ -91,7 +93,9 @@ module _ (s : List ℕ) where
             let served = file-judged s old .served good in
             by-cases (leb (room s) (length old))
             (λ wide. absurd (omega (arith, rw (served .by-run (leb-true (room s) (length old) wide) .0) at five)))
-            (λ few. absurd (omega (arith, rw (served .by-run-short (omega (arith, leb-false (room s) (length old) few)) .0) at five))))
+            (λ few.
+            let short = served .by-run-short (omega (arith, leb-false (room s) (length old) few)) in
+            absurd (omega (arith, rw (short .0) at five))))
             (λ bad. bad);
       }
 
@@ -135,11 +139,11 @@ host =
           (at .0, at .1 .by-check, (p .0 ∙ ap ranCode (told .0), p .1 .0 ∙ ap ranDetail (told .0), p .1 .1 ∙ told .1));
       report-short =
           λ κs args r e p few.
-          let kept = reported-none (args .0 .now) few in (p .0 ∙ ap ranCode (sym (kept .0)), p .1 .0 ∙ ap ranDetail (sym (kept .0)), p .1 .1 ∙ sym (kept .1));
-      by-ask = λ κs args r e p. rw (p .0, p .1) (asked-five (args .0 .now) (args .1 .0) (args .1 .1 .0) (args .1 .1 .1 .0) (args .1 .1 .1 .1 .0));
+          let kept = reported-none (args .0 .now) few in
+          let short = sym (kept .0) in
+          (p .0 ∙ ap ranCode short, p .1 .0 ∙ ap ranDetail short, p .1 .1 ∙ sym (kept .1));
+      by-ask = λ κs args r e p. rw (p .0, p .1) (asked-five (args .0 .now) _ _ _ _);
       ask-three =
           λ κs args r e p bytes low high.
-          p .0 ∙
-          asked-three (args .0 .now) bytes (args .1 .0) (args .1 .1 .0) (args .1 .1 .1 .0) (args .1 .1 .1 .1 .0) (rw (p .0) at low)
-          (rw (p .0) at high);
+          p .0 ∙ asked-three (args .0 .now) bytes _ _ _ _ (rw (p .0) at low) (rw (p .0) at high);
     }

@@ -91,7 +91,8 @@ module _ (s old : List ℕ) where
           by-room = few;
           by-run = (sym (kept .0), sym (kept .1));
           by-report = λ h. bad-reported (bad .1) (omega arith);
-          by-report-short = λ h. let none = reported-none s {old = old} (omega arith) in (sym (none .0) ∙ ap TooShort few, sym (none .1));
+          by-report-short =
+              λ h. let none = reported-none s {old = old} (omega arith) in (sym (none .0) ∙ ap TooShort few, sym (none .1));
           by-ask = λ kind a b c. bad-asked kind a b c (bad .1);
         },
       )

@@ -8,8 +8,12 @@ use Rattle.runner.proofs.Whole.{reported-none}
 pub runs : Runs
 runs =
     record {
-      check-refused = λ κs args r e p bad. let at = file-judged (args .0 .now) [] .given bad in (at .0, at .1 .by-check, p ∙ at .1 .by-check);
-      room-least = λ κs args r e p bad. let at = file-judged (args .0 .now) [] .given bad in (at .0, at .1 .by-check, p ∙ at .1 .by-room);
+      check-refused =
+          λ κs args r e p bad.
+          let at = file-judged (args .0 .now) [] .given bad in (at .0, at .1 .by-check, p ∙ at .1 .by-check);
+      room-least =
+          λ κs args r e p bad.
+          let at = file-judged (args .0 .now) [] .given bad in (at .0, at .1 .by-check, p ∙ at .1 .by-room);
       run-refused =
           λ κs args r e p bad.
           let at = file-judged (args .0 .now) (args .1 .0 .now) .given bad in
@@ -27,7 +31,8 @@ runs =
       ask-only = λ κs args r e p x told. file-judged (args .0 .now) [] .only-ask _ _ _ _ x (sym p ∙ told);
       run-spared =
           λ κs args r e p good few.
-          let kept = file-judged (args .0 .now) (args .1 .0 .now) .served good .by-run-short few in (p .0 ∙ kept .0, p .1 .0 ∙ kept .1);
+          let kept = file-judged (args .0 .now) (args .1 .0 .now) .served good .by-run-short few in
+          (p .0 ∙ kept .0, p .1 .0 ∙ kept .1);
       report-spared =
           λ κs args r e p few. let kept = reported-none (args .0 .now) few in (p .0 ∙ sym (kept .0), p .1 .0 ∙ sym (kept .1));
     }

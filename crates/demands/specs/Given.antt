@@ -51,7 +51,7 @@ pub record ProfileJudged (p : Profile) : Type 0 where
   pub useless : accepted p ≡ false → (c : Call) → perform c (newGear p .gear) ≡ refused (newGear p .gear) Unfit
   pub built : accepted p ≡ true → newGear p ≡ done (freshGear p)
 
--- what every call that takes a file gives for one whose lowest fault is at this offset; `old` is a lent buffer
+-- what each call that takes a file gives for one whose lowest fault is at this offset; `old` is what a lent buffer holds before
 pub record RefusedAt (s old : List ℕ) (offset : ℕ) : Type 0 where
   pub by-check : checked s ≡ Bad offset
   pub by-room : room s ≡ 16
@@ -69,13 +69,14 @@ pub record RefusedAt (s old : List ℕ) (offset : ℕ) : Type 0 where
 pub record ServedWith (s old : List ℕ) : Type 0 where
   pub by-check : checked s ≡ Good
   pub by-room : room s ≡ stepCount s (profileAt s) * 11 + 16
-  pub by-run : room s ≤ length old → (ran s (length old) ≡ Lines (length (linesOf s))) × (ranInto s old ≡ written old 0 (linesOf s))
+  pub by-run :
+      room s ≤ length old → (ran s (length old) ≡ Lines (length (linesOf s))) × (ranInto s old ≡ written old 0 (linesOf s))
   -- a buffer that is too short is no refusal: it gets its answer, and keeps every byte
   pub by-run-short : length old < room s → (ran s (length old) ≡ Short (room s)) × (ranInto s old ≡ old)
   pub by-report : (reported s (length old) ≡ ran s (length old)) × (reportedInto s old ≡ ranInto s old)
   pub by-ask : (kind a b c : ℕ) → asked s kind a b c ≡ Told (step (lastOf s) kind a b c .answer)
 
--- a file is one or the other; and no call gives an offset that is not the file's
+-- a file is one or the other; and check, run and ask name an offset only where it is the file's
 pub record FileJudged (s old : List ℕ) : Type 0 where
   pub given : wellFormed s ≡ false → (offset : ℕ) × RefusedAt s old offset
   pub served : wellFormed s ≡ true → ServedWith s old
@@ -83,7 +84,7 @@ pub record FileJudged (s old : List ℕ) : Type 0 where
   pub only-run : (offset : ℕ) → ran s (length old) ≡ Malformed offset → (wellFormed s ≡ false) × (checked s ≡ Bad offset)
   pub only-ask :
       (kind a b c offset : ℕ) → asked s kind a b c ≡ Unasked offset → (wellFormed s ≡ false) × (checked s ≡ Bad offset)
-  -- of the other refusals only 3 is told: the record of a file, whose bytes are below 256, is fit, and no step has a group address
+  -- of the other refusals only 3 is told: the record of a file is fit, since its bytes are below 256, and no step has a group address
   pub asked-byte :
       ((i : ℕ) → byte s i < 256) → (kind a b c : ℕ) (r : Refusal) → asked s kind a b c ≡ Told (Refused r) → r ≡ Byte
 

@@ -32,12 +32,16 @@ pub record Host : Type 1 where
   pub by-check : Always dali_gear_check.Reads.Post (λ κs args r e. Five (args .0 .now) r (e .1 .0 .now))
   pub by-room : Always dali_gear_room.Reads.Post (λ κs args r e. wellFormed (args .0 .now) ≡ false → r ≡ 16)
   pub by-run : Always dali_gear_run.Reads.Post (λ κs args r e. Five (args .0 .now) r (e .1 .1 .0 .now))
-  pub run-kept : Always dali_gear_run.Reads.Post (λ κs args r e. wellFormed (args .0 .now) ≡ false → e .1 .0 .now ≡ args .1 .0 .now)
+  pub run-kept :
+      Always dali_gear_run.Reads.Post (λ κs args r e. wellFormed (args .0 .now) ≡ false → e .1 .0 .now ≡ args .1 .0 .now)
   pub by-report :
       Always dali_gear_report.Reads.Post
       (λ κs args r e.
-      16 ≤ length (args .1 .0 .now) → AtFault (args .0 .now) (λ offset. Tells offset (args .1 .0 .now) r (e .1 .1 .0 .now) (e .1 .0 .now)))
-  pub report-short : Always dali_gear_report.Reads.Post (λ κs args r e. Spared (args .0 .now) (args .1 .0 .now) r (e .1 .1 .0 .now) (e .1 .0 .now))
+      16 ≤ length (args .1 .0 .now) →
+      AtFault (args .0 .now) (λ offset. Tells offset (args .1 .0 .now) r (e .1 .1 .0 .now) (e .1 .0 .now)))
+  pub report-short :
+      Always dali_gear_report.Reads.Post
+      (λ κs args r e. Spared (args .0 .now) (args .1 .0 .now) r (e .1 .1 .0 .now) (e .1 .0 .now))
   pub by-ask : Always dali_gear_ask.Reads.Post (λ κs args r e. Five (args .0 .now) r (e .1 .1 .1 .1 .1 .0 .now))
   -- of the numbers 1 to 4, where the file's bytes are below 256, only 3
   pub ask-three :

@@ -1,4 +1,4 @@
--- Refusal 5 and the lent buffer, over the own promises of the functions that take a session file: `file::check`, and those of runner.
+-- Refusal 5 and the lent buffer, over the own promises of the functions that take a session file: `file::check` and runner's.
 use Prim.Native.Nat.{ℕ, _≤_, _<_}
 use mathlib.Core.Path.{_≡_}
 use mathlib.Core.Bool.{true, false}
@@ -45,7 +45,8 @@ pub record Runs : Type 1 where
       (λ κs args r e. AtFault (args .0 .now) (λ offset. (r ≡ Malformed offset) × (e .1 .0 .now ≡ args .1 .0 .now)))
   pub report-told :
       Always run.report.Reads.Post
-      (λ κs args r e. 16 ≤ length (args .1 .0 .now) → AtFault (args .0 .now) (λ offset. TellsBad (args .1 .0 .now) offset r (e .1 .0 .now)))
+      (λ κs args r e.
+      16 ≤ length (args .1 .0 .now) → AtFault (args .0 .now) (λ offset. TellsBad (args .1 .0 .now) offset r (e .1 .0 .now)))
   pub ask-refused : Always ask.ask.Reads.Post (λ κs args r e. AtFault (args .0 .now) (λ offset. r ≡ Unasked offset))
   -- and of no other
   pub check-only : Always check.Reads.Post (λ κs args r e. OnlyAt (args .0 .now) (λ offset. r ≡ Bad offset))
@@ -53,5 +54,6 @@ pub record Runs : Type 1 where
   pub ask-only : Always ask.ask.Reads.Post (λ κs args r e. OnlyAt (args .0 .now) (λ offset. r ≡ Unasked offset))
   -- `run` judges the file first, and `report` the buffer
   pub run-spared :
-      Always run.run.Reads.Post (λ κs args r e. wellFormed (args .0 .now) ≡ true → Spares (args .0 .now) (args .1 .0 .now) r (e .1 .0 .now))
+      Always run.run.Reads.Post
+      (λ κs args r e. wellFormed (args .0 .now) ≡ true → Spares (args .0 .now) (args .1 .0 .now) r (e .1 .0 .now))
   pub report-spared : Always run.report.Reads.Post (λ κs args r e. Spares (args .0 .now) (args .1 .0 .now) r (e .1 .0 .now))
