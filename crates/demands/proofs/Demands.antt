@@ -7,6 +7,7 @@ use Rattle.demands.proofs.Blind.{keeps-blind}
 use Rattle.demands.proofs.Exactly.{exactly}
 use Rattle.demands.proofs.Fit.{accepted-exactly, fit-exactly}
 use Rattle.demands.proofs.Given.{refusals}
+use Rattle.demands.proofs.Host.{host}
 use Rattle.demands.proofs.Impostors.{caught}
 use Rattle.demands.proofs.Kept.{keeps-fit, keeps-bounds}
 use Rattle.demands.proofs.PowerCycle.{power-cycle-breaks}
@@ -55,5 +56,6 @@ demands =
             new = λ p o promise. promise;
             step-exactly = λ g kind a b c o promise. rw promise (step-exactly g kind a b c);
             runs = runs;
+            host = host;
           };
     }

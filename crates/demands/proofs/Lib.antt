@@ -1,4 +1,5 @@
 pub mod Answers
+pub mod AskedByte
 pub mod Blind
 pub mod Bytes
 pub mod Demands
@@ -6,6 +7,7 @@ pub mod Exactly
 pub mod Example
 pub mod Fit
 pub mod Given
+pub mod Host
 pub mod Impostors
 pub mod Kept
 pub mod Named

@@ -8,6 +8,7 @@ use Rattle.demands.specs.Blind.{KeepsBlind}
 use Rattle.demands.specs.Calls.{Behaviour, Call, perform}
 use Rattle.demands.specs.Fit.{Accepted, Fit}
 use Rattle.demands.specs.Given.{Refusals}
+use Rattle.demands.specs.Host.{Host}
 use Rattle.demands.specs.Impostors.{Caught}
 use Rattle.demands.specs.Kept.{KeepsFit, KeepsBounds, PowerCycleBreaks}
 use Rattle.demands.specs.Promises.{Promised, PromisedNew, PromisedStep}
@@ -61,7 +62,9 @@ pub record ByThePromises : Type 1 where
   pub rule : (c : Call) (g : Gear) → Promised c g (perform c g)
   pub new : (p : Profile) (o : Outcome) → PromisedNew p o → o ≡ newGear p
   pub step-exactly : (g : Gear) (kind a b c : ℕ) (o : Outcome) → PromisedStep g kind a b c o → Judged (stepRefusal (entry (kinds a b c) kind) g) g o
+  -- every function that takes a session file, and what a host is told by its library
   pub runs : Runs
+  pub host : Host
 
 pub record Demands : Type 1 where
   pub by-the-rules : ByTheRules

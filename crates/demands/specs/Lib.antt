@@ -4,6 +4,7 @@ pub mod Demands
 pub mod Example
 pub mod Fit
 pub mod Given
+pub mod Host
 pub mod Impostors
 pub mod Kept
 pub mod Outcome
