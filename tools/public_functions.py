@@ -39,19 +39,27 @@ def all_functions():
         yield from below(library.parent.parent.name, library, library.parent, [])
 
 
-# What takes a record and is no call: the test itself, and what calls are made of.
+# a record, and what holds one
+RECORD = re.compile(r"\b(Gear|Outcome)\b")
+
+# the public functions that take a record and are no calls, with the reason
 NO_CALLS = {
-    "gear::record::Gear::fit": "the test that every call makes",
-    "gear::answer::done": "an outcome of a call, made of its parts",
-    "gear::answer::refused": "an outcome of a call, made of its parts",
-    "gear::serve::tell": "the test around a call that only answers",
+    "gear::answer::done": "puts the answer Done beside the record that a call leaves",
+    "gear::answer::refused": "puts a refusal beside the record that a call hands back",
+    "gear::record::Gear::fit": "is the test itself",
+    "gear::serve::tell": "makes the test for a call that only answers",
 }
 
 
+def full_name(function):
+    return "::".join([function.crate] + function.path)
+
+
 def takes_record(function):
-    own = "self" in function.params and function.path[-2:-1] == ["Gear"]
-    return own or any(re.search(r":\s*Gear$", param) for param in function.params)
+    """As a parameter, or as the value that a method is of."""
+    own = function.path[-2:-1] if re.search(r"\bself\b", " ".join(function.params)) else []
+    return any(RECORD.search(text) for text in [*function.params, *own])
 
 
 def is_call(function):
-    return takes_record(function) and "::".join([function.crate] + function.path) not in NO_CALLS
+    return takes_record(function) and full_name(function) not in NO_CALLS
