@@ -27,7 +27,7 @@ class Stop(Exception):
 
 def needed(program, what):
     if shutil.which(program) is None:
-        raise Stop(3, f"there is no {program} {what}; 'tools/setup' says what is missing")
+        raise Stop(3, f"there is no {program} {what}; 'tools/setup' installs what bench/run needs")
     return program
 
 
