@@ -37,24 +37,19 @@ static int untouched(void) {
 
 static void checks(void) {
     expect("check", dali_gear_session_check(session, 36), DALI_GEAR_DONE, 0);
-    expect("check, a byte short", dali_gear_session_check(session, 35), DALI_GEAR_MALFORMED, 35);
-    expect("check, null and 0", dali_gear_session_check(NULL, 0), DALI_GEAR_MALFORMED, 0);
-    expect("check, null and a length", dali_gear_session_check(NULL, 36), DALI_GEAR_MALFORMED, 0);
     holds("room", dali_gear_session_room(session, 36) == ROOM);
-    holds("room, null and 0", dali_gear_session_room(NULL, 0) == 16);
 }
 
-/* A call that is refused, or whose buffer is too short, writes nothing. */
+/* A call whose buffer is too short writes nothing. */
 static void nothing_written(void) {
     memset(out, UNTOUCHED, sizeof out);
     expect("run, short", dali_gear_session_run(session, 36, out, ROOM - 1), DALI_GEAR_SHORT, ROOM);
     expect("run, no room", dali_gear_session_run(session, 36, out, 0), DALI_GEAR_SHORT, ROOM);
     expect("run, no buffer", dali_gear_session_run(session, 36, NULL, 0), DALI_GEAR_SHORT, ROOM);
     expect("run, no buffer and a length", dali_gear_session_run(session, 36, NULL, 99), DALI_GEAR_SHORT, ROOM);
-    expect("run, malformed", dali_gear_session_run(session, 35, out, sizeof out), DALI_GEAR_MALFORMED, 35);
-    expect("run, malformed and short", dali_gear_session_run(session, 35, out, 1), DALI_GEAR_MALFORMED, 35);
-    expect("report, short", dali_gear_session_report(session, 35, out, 15), DALI_GEAR_SHORT, 16);
-    holds("a refused call wrote something", untouched());
+    expect("report, short", dali_gear_session_report(session, 36, out, ROOM - 1), DALI_GEAR_SHORT, ROOM);
+    expect("report, no buffer", dali_gear_session_report(session, 36, NULL, 0), DALI_GEAR_SHORT, ROOM);
+    holds("a call with too short a buffer wrote something", untouched());
 }
 
 static void runs(void) {
@@ -64,8 +59,7 @@ static void runs(void) {
     memset(out, UNTOUCHED, LINES);
     holds("bytes behind the lines", untouched());
     expect("report", dali_gear_session_report(session, 36, out, sizeof out), DALI_GEAR_DONE, LINES);
-    expect("report, malformed", dali_gear_session_report(session, 35, out, 16), DALI_GEAR_DONE, 7);
-    holds("the line of a malformed file", memcmp(out, "bad 35\n", 7) == 0);
+    holds("the lines of a report", memcmp(out, lines, LINES) == 0);
 }
 
 static void answers(void) {
@@ -74,8 +68,49 @@ static void answers(void) {
     expect("ask for a write", dali_gear_session_ask(session, 36, 1, 0, 0, 0), DALI_GEAR_DONE, 0);
     expect("ask for byte 9", dali_gear_session_ask(session, 36, 1, 9, 0, 0), DALI_GEAR_BYTE, 0);
     expect("ask for kind 200", dali_gear_session_ask(session, 36, 200, 0, 0, 0), DALI_GEAR_BYTE, 0);
-    expect("ask of a malformed file", dali_gear_session_ask(session, 35, 2, 160, 0, 0), DALI_GEAR_MALFORMED, 0);
-    expect("ask of nothing", dali_gear_session_ask(NULL, 0, 2, 160, 0, 0), DALI_GEAR_MALFORMED, 0);
+}
+
+/* What each function gives for a malformed file: all of them name the same offset. */
+static void malformed(const char *what, const uint8_t *file, size_t len, size_t offset) {
+    char line[sizeof "bad 16412\n"];
+    size_t written = (size_t)snprintf(line, sizeof line, "bad %zu\n", offset);
+    memset(out, UNTOUCHED, sizeof out);
+    expect(what, dali_gear_session_check(file, len), DALI_GEAR_MALFORMED, offset);
+    holds(what, dali_gear_session_room(file, len) == 16);
+    expect(what, dali_gear_session_run(file, len, out, sizeof out), DALI_GEAR_MALFORMED, offset);
+    expect(what, dali_gear_session_run(file, len, NULL, 0), DALI_GEAR_MALFORMED, offset);
+    expect(what, dali_gear_session_ask(file, len, 2, 160, 0, 0), DALI_GEAR_MALFORMED, offset);
+    expect(what, dali_gear_session_ask(file, len, 1, 9, 0, 0), DALI_GEAR_MALFORMED, offset);
+    expect(what, dali_gear_session_ask(file, len, 200, 0, 0, 0), DALI_GEAR_MALFORMED, offset);
+    expect(what, dali_gear_session_report(file, len, out, 15), DALI_GEAR_SHORT, 16);
+    holds(what, untouched());
+    expect(what, dali_gear_session_report(file, len, out, 16), DALI_GEAR_DONE, written);
+    holds(what, memcmp(out, line, written) == 0);
+    memset(out, UNTOUCHED, written);
+    holds(what, untouched());
+}
+
+static void malformed_files(void) {
+    uint8_t file[DALI_GEAR_FILE_MAX + 1] = {0};
+    malformed("a byte short", session, 35, 35);
+    malformed("null and 0", NULL, 0, 0);
+    malformed("null and a length", NULL, 36, 0);
+    memcpy(file, session, 36);
+    malformed("a byte too many", file, 37, 36);
+    file[3] = 64;
+    malformed("short address 64", file, 36, 3);
+    file[8] = 7;
+    malformed("and seven channels, which is higher up", file, 36, 3);
+    file[3] = 5;
+    malformed("seven channels", file, 36, 8);
+    /* the longest file, of thirteen types and 4,096 steps, and a byte more */
+    memset(file, 0, sizeof file);
+    file[0] = 13;
+    memcpy(file + 14, session + 2, 12);
+    file[26] = 16;
+    expect("the longest file", dali_gear_session_check(file, DALI_GEAR_FILE_MAX), DALI_GEAR_DONE, 0);
+    holds("its room", dali_gear_session_room(file, DALI_GEAR_FILE_MAX) == DALI_GEAR_LINES_MAX);
+    malformed("longer than the longest file", file, sizeof file, DALI_GEAR_FILE_MAX);
 }
 
 int main(void) {
@@ -83,6 +118,7 @@ int main(void) {
     nothing_written();
     runs();
     answers();
+    malformed_files();
     printf("%d of %d as the header says\n", tried - failed, tried);
     return failed != 0;
 }

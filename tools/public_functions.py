@@ -37,3 +37,29 @@ def below(crate, file, folder, path):
 def all_functions():
     for library in sorted(CRATES.glob("*/src/lib.rt")):
         yield from below(library.parent.parent.name, library, library.parent, [])
+
+
+# a record, and what holds one
+RECORD = re.compile(r"\b(Gear|Outcome)\b")
+
+# the public functions that take a record and are no calls, with the reason
+NO_CALLS = {
+    "gear::answer::done": "puts the answer Done beside the record that a call leaves",
+    "gear::answer::refused": "puts a refusal beside the record that a call hands back",
+    "gear::record::Gear::fit": "is the test itself",
+    "gear::serve::tell": "makes the test for a call that only answers",
+}
+
+
+def full_name(function):
+    return "::".join([function.crate] + function.path)
+
+
+def takes_record(function):
+    """As a parameter, or as the value that a method is of."""
+    own = function.path[-2:-1] if re.search(r"\bself\b", " ".join(function.params)) else []
+    return any(RECORD.search(text) for text in [*function.params, *own])
+
+
+def is_call(function):
+    return takes_record(function) and full_name(function) not in NO_CALLS

@@ -20,7 +20,7 @@ extern "C" {
 
 /* What a call came to. The codes 1 to 5 are document 01's refusals under its own numbers. */
 enum dali_gear_code {
-    DALI_GEAR_DONE = 0,       /* done, and there is no value to give */
+    DALI_GEAR_DONE = 0,       /* done; the detail is the number of bytes written, if any */
     DALI_GEAR_PROFILE = 1,    /* profile not accepted */
     DALI_GEAR_UNFIT = 2,      /* record not fit */
     DALI_GEAR_BYTE = 3,       /* byte not in the call's table, or step kind not listed */
@@ -30,6 +30,36 @@ enum dali_gear_code {
     DALI_GEAR_NOTHING = 17,   /* no value: the gear has no answer to give */
     DALI_GEAR_SHORT = 18      /* the buffer is too short; the detail is the number of bytes it needs */
 };
+
+/* What each function gives. Of its cases the first that fits counts; the room of a file is what
+ * dali_gear_session_room gives for it.
+ *
+ *   function  case                                    code       detail
+ *
+ *   check     a malformed file                        MALFORMED  the offset of its lowest fault
+ *             else                                    DONE       0
+ *
+ *   room      a malformed file                        no code: it gives 16
+ *             else                                    no code: it gives 16, and 11 more for each step
+ *
+ *   run       a malformed file, whatever out is       MALFORMED  the offset of its lowest fault
+ *             out is shorter than the file's room     SHORT      the room
+ *             else                                    DONE       the bytes written, which are the file's lines
+ *
+ *   report    out is shorter than the file's room     SHORT      the room: 16 for a malformed file
+ *             a malformed file                        DONE       the bytes written, 6 to 10: 'bad' and the offset
+ *             else                                    DONE       the bytes written, which are the file's lines
+ *
+ *   ask       a malformed file, whatever is asked     MALFORMED  the offset of its lowest fault
+ *             kind 1 or 2, byte a not in its table    BYTE       0
+ *             a kind above 12                         BYTE       0
+ *             kinds 2 to 5, and there is a value      VALUE      the value, 0 to 65535
+ *             kinds 2 to 5, and there is none         NOTHING    0
+ *             else, which is kinds 0, 1 and 6 to 12   DONE       0
+ *
+ * So run judges the file first and then out, and report judges out first. Without DONE no byte of out is
+ * written; with it, the bytes behind the written ones stay as they were. PROFILE, UNFIT and GROUP are
+ * given by none of the five: the record of a well-formed file is fit, and no step has a group address. */
 
 /* A session file has at most so many bytes. */
 #define DALI_GEAR_FILE_MAX 16412
@@ -74,7 +104,8 @@ static inline struct dali_gear_result dali_gear_session_check(const uint8_t *fil
     return result;
 }
 
-/* The bytes that a buffer needs for the lines of this file, whatever they come to. */
+/* The bytes that a buffer needs for the lines of this file, whatever they come to. For a malformed file
+ * that is 16, which is room for the line of dali_gear_session_report. */
 static inline size_t dali_gear_session_room(const uint8_t *file, size_t file_len) {
     file = dali_gear_bytes(file, &file_len);
     return dali_gear_room(file, file_len);
@@ -82,7 +113,7 @@ static inline size_t dali_gear_session_room(const uint8_t *file, size_t file_len
 
 /* Runs a session file and writes its lines to out: DONE with the number of bytes written, MALFORMED
  * with the offset, or SHORT with the bytes that out needs. In the last two cases no byte of out is
- * written. The file and out must not overlap. */
+ * written. A malformed file is MALFORMED however short out is. The file and out must not overlap. */
 static inline struct dali_gear_result dali_gear_session_run(const uint8_t *file, size_t file_len, uint8_t *out,
                                                             size_t out_len) {
     struct dali_gear_result result;
@@ -92,7 +123,11 @@ static inline struct dali_gear_result dali_gear_session_run(const uint8_t *file,
     return result;
 }
 
-/* The same, but a malformed file has a line too, 'bad' and the offset, as in the program session. */
+/* Writes to out what the program session prints: the lines of a well-formed file, as above; for a
+ * malformed file one line, 'bad', a space and the offset. Either is DONE with the number of bytes written:
+ * this function never gives MALFORMED, and dali_gear_session_check tells a malformed file from another.
+ * Its only other code is SHORT with the bytes that out needs, and no byte of out is written then. The
+ * file and out must not overlap. */
 static inline struct dali_gear_result dali_gear_session_report(const uint8_t *file, size_t file_len, uint8_t *out,
                                                                size_t out_len) {
     struct dali_gear_result result;
@@ -103,8 +138,9 @@ static inline struct dali_gear_result dali_gear_session_report(const uint8_t *fi
 }
 
 /* Performs one more step, of the session's kinds, on the record that the file's steps leave, and gives
- * its answer: DONE, VALUE with the value, NOTHING, or a refusal. The file stays as it is: to keep the
- * step, add it to the file. So kind 2 with a = 160 asks for the level that the lamp has now. */
+ * its answer: DONE, VALUE with the value, NOTHING, or BYTE. A malformed file has no record to ask: it is
+ * MALFORMED with the offset, whatever is asked. The file stays as it is: to keep the step, add it to the
+ * file. So kind 2 with a = 160 asks for the level that the lamp has now. */
 static inline struct dali_gear_result dali_gear_session_ask(const uint8_t *file, size_t file_len, uint8_t kind,
                                                             uint8_t a, uint8_t b, uint8_t c) {
     struct dali_gear_result result;

@@ -22,8 +22,8 @@ pub enum Refusal {
     Byte,
     /// Group address above 15.
     Group,
-    /// Session file malformed.
-    File,
+    /// Session file malformed, with the offset of its lowest fault.
+    File(usize),
 }
 
 impl Refusal {
@@ -33,17 +33,17 @@ impl Refusal {
             Refusal::Unfit => 2,
             Refusal::Byte => 3,
             Refusal::Group => 4,
-            Refusal::File => 5,
+            Refusal::File(_) => 5,
         }
     }
 
-    fn of(number: u32) -> Refusal {
+    fn of(number: u32, detail: usize) -> Refusal {
         match number {
             1 => Refusal::Profile,
             2 => Refusal::Unfit,
             3 => Refusal::Byte,
             4 => Refusal::Group,
-            _ => Refusal::File,
+            _ => Refusal::File(detail),
         }
     }
 }
@@ -108,12 +108,14 @@ pub fn check(file: &[u8]) -> Result<(), usize> {
     }
 }
 
-/// The bytes that a buffer needs for the lines of this file, whatever they come to.
+/// The bytes that a buffer needs for the lines of this file, whatever they come to: 16, and 11 more for each
+/// step; for a malformed file 16.
 pub fn room(file: &[u8]) -> usize {
     unsafe { library::dali_gear_room(file.as_ptr(), file.len()) }
 }
 
-/// Runs a session file, and gives the part of `out` that its lines fill.
+/// Runs a session file, and gives the part of `out` that its lines fill. A malformed file is `Malformed`
+/// however short `out` is: the file is judged first. Behind the lines, `out` stays as it was.
 pub fn run<'a>(file: &[u8], out: &'a mut [u8]) -> Result<&'a [u8], NotRun> {
     let mut detail = 0;
     let code = unsafe {
@@ -128,6 +130,11 @@ pub fn run<'a>(file: &[u8], out: &'a mut [u8]) -> Result<&'a [u8], NotRun> {
 
 /// Performs one more step on the record that the file's steps leave. The file stays as it is: to keep the
 /// step, add it to the file.
+///
+/// A malformed file is `Refused(File(offset))`, whatever the step is. Else a kind above 12, and a byte that is
+/// not listed in kinds 1 and 2, is `Refused(Byte)`; kinds 2 to 5 give `Value` or `Nothing`, and the others
+/// `Done`. No other refusal is given: the record of a well-formed file is fit, and no step has a group
+/// address.
 pub fn ask(file: &[u8], step: Step) -> Answer {
     let mut detail = 0;
     let Step(kind, a, b, c) = step;
@@ -136,6 +143,6 @@ pub fn ask(file: &[u8], step: Step) -> Answer {
         DONE => Answer::Done,
         VALUE => Answer::Value(detail as u16),
         NOTHING => Answer::Nothing,
-        number => Answer::Refused(Refusal::of(number)),
+        number => Answer::Refused(Refusal::of(number, detail)),
     }
 }

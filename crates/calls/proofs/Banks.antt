@@ -15,14 +15,12 @@ use Rattle.gear.specs.declared.command.StandardCommand.{StandardCommand}
 use Rattle.gear.specs.declared.command.StandardCommand.the-variants.{Arc, GoToScene, Reset, IdentifyDevice, Config, EnableWriteMemory, Unknown}
 use Rattle.gear.specs.declared.record.Gear.{Gear}
 use Rattle.gear.specs.Command.{commandOf}
-use Rattle.gear.specs.Record.{fitb, resetGear}
+use Rattle.gear.specs.Record.{fitb}
 use Rattle.gear.specs.Serve.{serve, tell}
 use Rattle.gear.specs.Write.{applyStandardWrite, arcWrite, configWrite, directArcPower, enableWrite, identify, recallScene, removeScene, setMin, setPowerOnLevel, setScene, setSystemFailureLevel, write}
 use Rattle.gear.specs.declared.marks.Walk.{Walk}
 use Rattle.gear.specs.declared.marks.Walk.the-variants.{Off, At}
-use Rattle.query.specs.Lamp.{actualLevel, lampFailureFrom207, lampOn, overheated, thermalShutDown}
-use Rattle.query.specs.Reply.{gearFailure, gearQueryReply, heardQuery, identityReply, isQuery, query, reply, reported, reportFor, settingReply, statusReply}
-use Rattle.query.specs.Status.{lampFailing, statusByte}
+use Rattle.query.specs.Reply.{gearQueryReply, heardQuery, isQuery, query, reported, reportFor}
 use Rattle.query.specs.Walk.{deviceType, next, nextAt, nextDeviceType}
 use Rattle.numbers.proofs.Logic.{by-cases}
 
@@ -67,7 +65,7 @@ config-alike g b (AddToGroup n) d = refl
 config-alike g b (RemoveFromGroup n) d = refl
 
 write-alike : (g : Gear) (b : Banks) (k : StandardCommand) (d : ℕ) → Alike (write (withBanks g b) k d) (write g k d)
-unfolding write arcWrite recallScene resetGear identify enableWrite
+unfolding write arcWrite recallScene identify enableWrite
 write-alike g b (Arc a) d = record { answer = refl; rest = refl }
 write-alike g b (GoToScene s) d = record { answer = refl; rest = refl }
 write-alike g b Reset d = record { answer = refl; rest = refl }
@@ -100,11 +98,7 @@ next-alike g b Off = record { answer = refl; rest = refl }
 next-alike g b (At n) =
     by-cases (leb (g .unit .count) n) (λ e. rw e (record { answer = refl; rest = refl })) (λ e. rw e (record { answer = refl; rest = refl }))
 
--- nothing that a query tells or reports is read from a bank
-reply-alike : (g : Gear) (b : Banks) (byte : ℕ) → reply (withBanks g b) byte ≡ reply g byte
-unfolding reply statusReply settingReply identityReply statusByte lampFailing lampFailureFrom207 lampOn thermalShutDown actualLevel overheated gearFailure
-reply-alike g b byte = refl
-
+-- nothing that a query reports is read from a bank
 heard-alike : (g : Gear) (b : Banks) (byte : ℕ) → unbanked (heardQuery (withBanks g b) byte) ≡ unbanked (heardQuery g byte)
 unfolding heardQuery reported reportFor
 heard-alike g b byte = refl
@@ -116,7 +110,7 @@ query-alike g b byte =
     (λ e.
     by-cases (eqb byte 167) (λ t. rw (e, t) (next-alike g b (g .marks .walk)))
     (λ t.
-    by-cases (isQuery byte) (λ u. rw (e, t, u) (record { answer = reply-alike g b byte; rest = heard-alike g b byte }))
+    by-cases (isQuery byte) (λ u. rw (e, t, u) (record { answer = refl; rest = heard-alike g b byte }))
     (λ u. rw (e, t, u) (record { answer = refl; rest = refl }))))
 
 pub query-blind : (byte : ℕ) → Blind (λ g. gearQueryReply g byte)

@@ -19,8 +19,6 @@ use Rattle.gear.specs.declared.answer.Answer.{Answer}
 use Rattle.gear.specs.declared.answer.Answer.the-variants.{Done}
 use Rattle.gear.specs.declared.record.Faults.{Faults}
 use Rattle.gear.specs.declared.record.Gear.{Gear}
-use Rattle.query.specs.Lamp.{actualLevel, lampFailureFrom207, lampOn, overheated, thermalShutDown}
-use Rattle.query.specs.Status.{lampFailing, statusByte}
 use Rattle.numbers.proofs.Logic.{by-cases}
 
 recoloured-alike : (g : Gear) (b : Banks) (c : Colour) → Alike (recoloured (withBanks g b) c) (recoloured g c)
@@ -84,7 +82,7 @@ pub record BlindCalls : Type 0 where
   pub type : (code : ℕ) → BlindRead (λ g. typeCall g code)
 
 pub blind-calls : BlindCalls
-unfolding activateCall actualLevel actualLevelCall automaticCall clearNumberCall colorValueCall colourStatusCall controlCall copyReportCall failureBitsCall featureByteCall featuresCall hearCall hearElsewhereCall holdsCall implementsCall judged lampFailing lampFailureCall lampFailureFrom207 lampOn lampOnCall matchesCall matching overheated powerCycle powerCycleCall setEnabledCall setFaultsCall setFeaturesCall setLampFailureCall setLampStartingCall setLastCall setLocationCall setLockCall setUnitCall stageCall statusByte statusCall storeTcLimitCall tcStepCall thermalCall thermalShutDown typeCall xyStepCall
+unfolding activateCall actualLevelCall automaticCall clearNumberCall colorValueCall colourStatusCall controlCall copyReportCall failureBitsCall featureByteCall featuresCall hearCall hearElsewhereCall holdsCall implementsCall judged lampFailureCall lampOnCall matchesCall matching powerCycle powerCycleCall setEnabledCall setFaultsCall setFeaturesCall setLampFailureCall setLampStartingCall setLastCall setLocationCall setLockCall setUnitCall stageCall statusCall storeTcLimitCall tcStepCall thermalCall typeCall xyStepCall
 blind-calls =
     record {
       tc-step = λ warmer g b. recoloured-alike g b _;

@@ -14,14 +14,17 @@ ghost use Rattle.calls.specs.Reads.{statusCall, lampOnCall, failureBitsC
 pub fn status_byte(gear: Gear) -> Answer
     ensures { λ r. ⌜ r ≡ statusCall gear ⌝ }
 {
-    let status = status_of(gear);
+    let status = status_of(gear.unit, gear.levels, gear.marks, gear.lamp, gear.faults);
     tell(gear, Answer::Value(status as u16))
 }
 
 pub fn lamp_on(gear: Gear) -> Answer
     ensures { λ r. ⌜ r ≡ lampOnCall gear ⌝ }
 {
-    tell(gear, flag(lit(gear)))
+    tell(
+        gear,
+        flag(lit(gear.unit, gear.levels, gear.lamp, gear.faults)),
+    )
 }
 
 // Part 207, bits 0 to 6: short circuit, open circuit, load decrease, load increase, current protector, thermal shut-down,
@@ -36,19 +39,19 @@ pub fn failure_bits(gear: Gear) -> Answer
 pub fn thermal_shut_down(gear: Gear) -> Answer
     ensures { λ r. ⌜ r ≡ thermalCall gear ⌝ }
 {
-    tell(gear, flag(shut(gear)))
+    tell(gear, flag(shut(gear.unit, gear.faults)))
 }
 
 pub fn lamp_failure_from_207(gear: Gear) -> Answer
     ensures { λ r. ⌜ r ≡ lampFailureCall gear ⌝ }
 {
-    tell(gear, flag(fails(gear)))
+    tell(gear, flag(fails(gear.unit, gear.faults)))
 }
 
 pub fn actual_level_answer(gear: Gear) -> Answer
     ensures { λ r. ⌜ r ≡ actualLevelCall gear ⌝ }
 {
-    let level = level_of(gear);
+    let level = level_of(gear.unit, gear.levels, gear.faults, gear.colour.active);
     tell(gear, Answer::Value(level as u16))
 }
 

@@ -5,6 +5,8 @@ use Rattle.gear.specs.declared.answer.Answer.{Answer}
 use Rattle.gear.specs.declared.answer.Answer.the-variants.{Done, Value, Nothing, Refused}
 use Rattle.file.specs.declared.Verdict.{Verdict}
 use Rattle.file.specs.declared.Verdict.the-variants.{Good, Bad}
+use Rattle.runner.specs.declared.ask.Asked.{Asked}
+use Rattle.runner.specs.declared.ask.Asked.the-variants.{Told, Malformed as Unasked}
 use Rattle.runner.specs.declared.run.Ran.{Ran}
 use Rattle.runner.specs.declared.run.Ran.the-variants.{Lines, Malformed, Short}
 
@@ -37,3 +39,11 @@ answerDetail Done = 0
 answerDetail (Value value) = value
 answerDetail Nothing = 0
 answerDetail (Refused r) = 0
+
+unfoldable pub askedCode : Asked → ℕ
+askedCode (Told answer) = answerCode answer
+askedCode (Unasked offset) = 5
+
+unfoldable pub askedDetail : Asked → ℕ
+askedDetail (Told answer) = answerDetail answer
+askedDetail (Unasked offset) = offset

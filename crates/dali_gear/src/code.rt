@@ -1,9 +1,11 @@
 // Answers as two numbers, a code and its detail. The codes 1 to 5 are document 01's refusals.
 use file::Verdict;
 use gear::answer::Answer;
+use runner::ask::Asked;
 use runner::run::Ran;
 ghost use mathlib.Core.Path.{_≡_};
-ghost use Rattle.dali_gear.specs.Code.{answerCode, answerDetail, ranCode, ranDetail, verdictCode, verdictDetail};
+ghost use Rattle.dali_gear.specs.Code.{answerCode, answerDetail, askedCode, askedDetail};
+ghost use Rattle.dali_gear.specs.Code.{ranCode, ranDetail, verdictCode, verdictDetail};
 
 const DONE: u32 = 0;
 
@@ -53,7 +55,7 @@ pub fn ran_detail(ran: Ran) -> usize
     }
 }
 
-pub fn answer_code(answer: Answer) -> u32
+fn answer_code(answer: Answer) -> u32
     ensures { λ r. ⌜ r ≡ answerCode answer ⌝ }
 {
     match answer {
@@ -67,7 +69,7 @@ pub fn answer_code(answer: Answer) -> u32
     }
 }
 
-pub fn answer_detail(answer: Answer) -> usize
+fn answer_detail(answer: Answer) -> usize
     ensures { λ r. ⌜ r ≡ answerDetail answer ⌝ }
 {
     match answer {
@@ -75,5 +77,23 @@ pub fn answer_detail(answer: Answer) -> usize
         Answer::Value(value) => value as usize,
         Answer::Nothing => 0,
         Answer::Refused(_) => 0,
+    }
+}
+
+pub fn asked_code(asked: Asked) -> u32
+    ensures { λ r. ⌜ r ≡ askedCode asked ⌝ }
+{
+    match asked {
+        Asked::Told(answer) => answer_code(answer),
+        Asked::Malformed(_) => MALFORMED,
+    }
+}
+
+pub fn asked_detail(asked: Asked) -> usize
+    ensures { λ r. ⌜ r ≡ askedDetail asked ⌝ }
+{
+    match asked {
+        Asked::Told(answer) => answer_detail(answer),
+        Asked::Malformed(offset) => offset,
     }
 }

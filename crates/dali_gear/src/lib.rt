@@ -1,20 +1,20 @@
 // What a host in C or Rust calls: session files on lent bytes, and answers as numbers. include/dali_gear.h says it for people.
 mod code;
 
-use crate::code::answer_code;
-use crate::code::answer_detail;
+use crate::code::asked_code;
+use crate::code::asked_detail;
 use crate::code::ran_code;
 use crate::code::ran_detail;
 use crate::code::verdict_code;
 use crate::code::verdict_detail;
 ghost use mathlib.Core.Path.{_≡_};
 ghost use lib.ListN.{length};
-ghost use Rattle.dali_gear.specs.Code.{answerCode, answerDetail, ranCode, ranDetail, verdictCode, verdictDetail};
+ghost use Rattle.dali_gear.specs.Code.{askedCode, askedDetail, ranCode, ranDetail, verdictCode, verdictDetail};
 ghost use Rattle.runner.specs.Ask.{asked};
 ghost use Rattle.file.specs.File.{checked};
 ghost use Rattle.runner.specs.Run.{ran, ranInto, reported, reportedInto, room};
 
-// Judges a file. The detail is the offset of its lowest fault.
+// Judges a file. The detail is the offset of its lowest fault, or 0.
 #[no_mangle]
 pub extern "C" fn dali_gear_check(file: &[u8], detail: &mut usize) -> u32
     ensures code { λ r. ⌜ r ≡ verdictCode (checked (now (file .entry))) ⌝ }
@@ -25,7 +25,7 @@ pub extern "C" fn dali_gear_check(file: &[u8], detail: &mut usize) -> u32
     verdict_code(verdict)
 }
 
-// The bytes that a buffer needs for whatever the file's lines are.
+// The bytes that a buffer needs for whatever the file's lines are: 16 for a malformed file.
 #[no_mangle]
 pub extern "C" fn dali_gear_room(file: &[u8]) -> usize
     ensures { λ r. ⌜ r ≡ room (now (file .entry)) ⌝ }
@@ -33,7 +33,8 @@ pub extern "C" fn dali_gear_room(file: &[u8]) -> usize
     runner::run::room(file)
 }
 
-// Runs a file. The detail is the bytes written, the offset of a fault, or the bytes that the buffer needs.
+// Runs a file. The detail is the bytes written, the offset of a malformed file's lowest fault, or the bytes that the buffer needs. The
+// file is judged before the buffer.
 #[no_mangle]
 pub extern "C" fn dali_gear_run(file: &[u8], out: &mut [u8], detail: &mut usize) -> u32
     ensures code { λ r. ⌜ r ≡ ranCode (ran (now (file .entry)) (length (now (out .entry)))) ⌝ }
@@ -45,7 +46,8 @@ pub extern "C" fn dali_gear_run(file: &[u8], out: &mut [u8], detail: &mut usize)
     ran_code(ran)
 }
 
-// The same, but a malformed file has its line too: what the program `session` prints.
+// Writes what the program `session` prints. Of a malformed file that is the line `bad` with the offset, and the code is 0, never 5.
+// The detail is the bytes written, or those that the buffer needs. The buffer is judged before the file.
 #[no_mangle]
 pub extern "C" fn dali_gear_report(file: &[u8], out: &mut [u8], detail: &mut usize) -> u32
     ensures code { λ r. ⌜ r ≡ ranCode (reported (now (file .entry)) (length (now (out .entry)))) ⌝ }
@@ -57,7 +59,7 @@ pub extern "C" fn dali_gear_report(file: &[u8], out: &mut [u8], detail: &mut usi
     ran_code(ran)
 }
 
-// One more step on the record that the file's steps leave. The detail is the value.
+// One more step on the record that the file's steps leave. The detail is the value, or the offset of a malformed file's lowest fault.
 #[no_mangle]
 pub extern "C" fn dali_gear_ask(
     file: &[u8],
@@ -67,10 +69,10 @@ pub extern "C" fn dali_gear_ask(
     c: u8,
     detail: &mut usize,
 ) -> u32
-    ensures code { λ r. ⌜ r ≡ answerCode (asked (now (file .entry)) kind a b c) ⌝ }
-    ensures detail { λ _. ⌜ now (detail .exit) ≡ answerDetail (asked (now (file .entry)) kind a b c) ⌝ }
+    ensures code { λ r. ⌜ r ≡ askedCode (asked (now (file .entry)) kind a b c) ⌝ }
+    ensures detail { λ _. ⌜ now (detail .exit) ≡ askedDetail (asked (now (file .entry)) kind a b c) ⌝ }
 {
-    let answer = runner::ask::ask(file, kind, a, b, c);
-    *detail = answer_detail(answer);
-    answer_code(answer)
+    let asked = runner::ask::ask(file, kind, a, b, c);
+    *detail = asked_detail(asked);
+    asked_code(asked)
 }

@@ -30,6 +30,7 @@ use Rattle.gear.proofs.Refusals.{isWrite, write-refusals}
 use Rattle.numbers.specs.Numbers.{pick}
 use Rattle.numbers.proofs.Logic.{by-cases}
 use Rattle.query.specs.Reply.{identityReply, isQuery, query, reply, settingReply, statusReply, yes}
+use Rattle.query.specs.declared.told.Seen.{Seen}
 use Rattle.query.specs.Walk.{deviceType, next, nextAt, nextDeviceType}
 
 data Plain : Answer → Type 0 where
@@ -72,9 +73,9 @@ yes-plain : (t : Bool) → Plain (yes t)
 unfolding yes
 yes-plain t = either t value nothing
 
-status-plain : (g : Gear) (low : ℕ) → Plain (statusReply g low)
+status-plain : (s : Seen) (low : ℕ) → Plain (statusReply s low)
 unfolding statusReply
-status-plain g low =
+status-plain s low =
     either (eqb low 0) value
     (either (eqb low 1) value
     (either (eqb low 2) (yes-plain _)
@@ -86,9 +87,9 @@ status-plain g low =
     (either (eqb low 10) value
     (either (eqb low 11) (yes-plain _) (either (eqb low 14) value (either (eqb low 15) value nothing)))))))))))
 
-setting-plain : (g : Gear) (low : ℕ) → Plain (settingReply g low)
+setting-plain : (s : Seen) (low : ℕ) → Plain (settingReply s low)
 unfolding settingReply
-setting-plain g low =
+setting-plain s low =
     either (eqb low 0) value
     (either (eqb low 1) value
     (either (eqb low 2) value
@@ -96,18 +97,18 @@ setting-plain g low =
     (either (eqb low 4) value
     (either (eqb low 5) value (either (eqb low 8) value (either (eqb low 10) (yes-plain _) nothing)))))))
 
-identity-plain : (g : Gear) (low : ℕ) → Plain (identityReply g low)
+identity-plain : (s : Seen) (low : ℕ) → Plain (identityReply s low)
 unfolding identityReply
-identity-plain g low =
+identity-plain s low =
     either (eqb low 0) value
     (either (eqb low 1) value (either (eqb low 2) value (either (eqb low 3) value (either (eqb low 4) value nothing))))
 
-reply-plain : (g : Gear) (b : ℕ) → Plain (reply g b)
+reply-plain : (s : Seen) (b : ℕ) → Plain (reply s b)
 unfolding reply
-reply-plain g b =
-    either (eqb (b / 16) 9) (status-plain g (b % 16))
-    (either (eqb (b / 16) 10) (setting-plain g (b % 16))
-    (either (eqb (b / 16) 11) value (either (eqb (b / 16) 12) (identity-plain g (b % 16)) nothing)))
+reply-plain s b =
+    either (eqb (b / 16) 9) (status-plain s (b % 16))
+    (either (eqb (b / 16) 10) (setting-plain s (b % 16))
+    (either (eqb (b / 16) 11) value (either (eqb (b / 16) 12) (identity-plain s (b % 16)) nothing)))
 
 type-plain : (g : Gear) → Plain (deviceType g .answer)
 unfolding deviceType
@@ -125,7 +126,7 @@ query-judged g b =
     (λ e.
     by-cases (eqb b 167) (λ t. let at : b ≡ 167 = eqb-true b 167 t in rw at (plain (next-plain g (g .marks .walk))))
     (λ t.
-    by-cases (isQuery b) (λ u. rw (← query-listed b, e, t, u) (plain (reply-plain g b))) (λ u. rw (← query-listed b, e, t, u) refl)))
+    by-cases (isQuery b) (λ u. rw (← query-listed b, e, t, u) (plain (reply-plain _ b))) (λ u. rw (← query-listed b, e, t, u) refl)))
 
 -- ## Writes
 

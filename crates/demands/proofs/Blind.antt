@@ -2,7 +2,7 @@
 use Prim.Native.Nat.{ℕ}
 use mathlib.Core.Path.{_≡_, refl, sym, ap, _∙_}
 use mathlib.Core.List.{List, [], _∷_}
-use Rattle.demands.specs.Blind.{OfBanks, KeepsBlind}
+use Rattle.demands.specs.Blind.{OfBanks, SameButBanks, KeepsBlind}
 use Rattle.demands.specs.Calls.{Call, perform}
 use Rattle.demands.specs.Calls.Call.{StandardWrite, ArcPower, Query, Matches, TcStep, XyStep, StoreTcLimit, Stage, Activate, CopyReport, SetFeatures, ColorValue, ColourStatus, Features, ControlByte, FeatureByte, Automatic, ReadMemory, WriteMemory, AdvancesDtr0, ImplementsBank, SetLockByte, SetLocation, SetGearUnit, SetLastOffset, ClearNumber, Hear, HoldsFrame, HearElsewhere, PowerCycle, StatusByte, LampOn, FailureBits, ThermalShutDown, LampFailure, ActualLevel, IsType, SetEnabled, SetLampFailure, SetLampStarting, SetFaults}
 use Rattle.demands.specs.Readings.{after}
@@ -114,14 +114,22 @@ answer (SetFaults faults) g b other = blind-calls .set-faults faults g b .answer
 rejoined : (g h : Gear) → unbanked h ≡ unbanked g → h ≡ withBanks g (h .banks)
 rejoined g h e = ap (λ (x : Gear). withBanks x (h .banks)) e
 
-onwards : (before : List Call) (g h : Gear) → unbanked h ≡ unbanked g → unbanked (after before h) ≡ unbanked (after before g)
+onwards :
+    (before : List Call) (g h : Gear) → unbanked h ≡ unbanked g → unbanked (after perform before h) ≡ unbanked (after perform before g)
 onwards [] g h e = e
 onwards (c ∷ cs) g h e =
     onwards cs (perform c g .gear) (perform c h .gear)
     (ap (λ (x : Gear). unbanked (perform c x .gear)) (rejoined g h e) ∙ rest c g (h .banks))
 
-pub keeps-blind : KeepsBlind
-keeps-blind g b before c other =
-    let there = after before (withBanks g b) in
-    let same = rejoined (after before g) there (onwards before g (withBanks g b) refl) in
-    ap (λ (x : Gear). perform c x .answer) same ∙ answer c (after before g) (there .banks) other
+same : (g : Gear) (b : Banks) (before : List Call) → SameButBanks (after perform before (withBanks g b)) (after perform before g)
+same g b before = rejoined (after perform before g) (after perform before (withBanks g b)) (onwards before g (withBanks g b) refl)
+
+pub keeps-blind : KeepsBlind perform
+keeps-blind =
+    record {
+      fields = same;
+      answers =
+          λ g b before c other.
+          ap (λ (x : Gear). perform c x .answer) (same g b before) ∙
+          answer c (after perform before g) (after perform before (withBanks g b) .banks) other;
+    }

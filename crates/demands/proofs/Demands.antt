@@ -1,37 +1,61 @@
 -- The statements of specs/Demands, proved.
-use Rattle.demands.specs.Demands.{Demands}
+use mathlib.Core.Path.{_≡_, subst, sym, fun-ext}
+use Rattle.demands.specs.Calls.{Behaviour, Call, perform}
+use Rattle.demands.specs.Demands.{Demanded, Demands}
+use Rattle.demands.specs.Promises.{Promised}
 use Rattle.demands.proofs.Blind.{keeps-blind}
-use Rattle.demands.proofs.Exactly.{exactly, promised-exactly}
+use Rattle.demands.proofs.Exactly.{exactly}
+use Rattle.demands.proofs.Fit.{accepted-exactly, fit-exactly}
 use Rattle.demands.proofs.Given.{refusals}
+use Rattle.demands.proofs.Host.{host}
+use Rattle.demands.proofs.Impostors.{caught}
 use Rattle.demands.proofs.Kept.{keeps-fit, keeps-bounds}
 use Rattle.demands.proofs.PowerCycle.{power-cycle-breaks}
-use Rattle.demands.proofs.Promises.{rule-promised}
+use Rattle.demands.proofs.Promises.{promised-rule, rule-promised}
 use Rattle.demands.proofs.Readings.{readings}
 use Rattle.demands.proofs.Runs.{runs}
+use Rattle.demands.proofs.Sessions.{sessions}
 use Rattle.demands.proofs.Steps.{stepped, step-exactly, unlisted-exactly}
+use Rattle.gear.specs.declared.record.Gear.{Gear}
+
+pub rules-demanded : Demanded perform
+rules-demanded =
+    record {
+      exactly = exactly;
+      refusals = refusals;
+      keeps-fit = keeps-fit;
+      keeps-bounds = keeps-bounds;
+      power-cycle = power-cycle-breaks;
+      keeps-blind = keeps-blind;
+      readings = readings;
+    }
+
+-- functions that meet their promises give what the rules give, on every call and record
+pub promised-demanded : (f : Behaviour) → ((c : Call) (g : Gear) → Promised c g (f c g)) → Demanded f
+promised-demanded f promised =
+    subst Demanded (sym (fun-ext (λ c. fun-ext (λ g. promised-rule c g (f c g) (promised c g))))) rules-demanded
 
 pub demands : Demands
 demands =
     record {
       by-the-rules =
           record {
-            exactly = exactly;
-            refusals = refusals;
+            demanded = rules-demanded;
+            accepted-exactly = accepted-exactly;
+            fit-exactly = fit-exactly;
             steps = stepped;
             step-kinds = unlisted-exactly;
             step-exactly = step-exactly;
+            sessions = sessions;
+            impostors = caught;
           };
       by-the-promises =
           record {
-            exactly = promised-exactly;
+            demanded = promised-demanded;
             rule = rule-promised;
             new = λ p o promise. promise;
             step-exactly = λ g kind a b c o promise. rw promise (step-exactly g kind a b c);
             runs = runs;
+            host = host;
           };
-      keeps-fit = keeps-fit;
-      keeps-bounds = keeps-bounds;
-      power-cycle = power-cycle-breaks;
-      keeps-blind = keeps-blind;
-      readings = readings;
     }

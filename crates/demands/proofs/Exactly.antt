@@ -5,10 +5,8 @@ use mathlib.Core.Bool.{true}
 use mathlib.Core.Option.{Option, none, some}
 use Rattle.demands.specs.Calls.{Call, told, perform}
 use Rattle.demands.specs.Calls.Call.{StandardWrite, ArcPower, Query, Matches, TcStep, XyStep, StoreTcLimit, Stage, Activate, CopyReport, SetFeatures, ColorValue, ColourStatus, Features, ControlByte, FeatureByte, Automatic, ReadMemory, WriteMemory, AdvancesDtr0, ImplementsBank, SetLockByte, SetLocation, SetGearUnit, SetLastOffset, ClearNumber, Hear, HoldsFrame, HearElsewhere, PowerCycle, StatusByte, LampOn, FailureBits, ThermalShutDown, LampFailure, ActualLevel, IsType, SetEnabled, SetLampFailure, SetLampStarting, SetFaults}
-use Rattle.demands.specs.Promises.{Promised}
-use Rattle.demands.specs.Refusals.{listed, writeBytes, refusalOf, Judged}
+use Rattle.demands.specs.Refusals.{Judged, RefusesExactly, listed, writeBytes}
 use Rattle.demands.proofs.Answers.{address-judged, flag-plain, hear-plain, location-plain, query-judged, value-plain, write-judged}
-use Rattle.demands.proofs.Promises.{promised-rule}
 use Rattle.calls.specs.Address.{matchesCall}
 use Rattle.calls.specs.Colours.{activateCall, automaticCall, colorValueCall, colourStatusCall, controlCall, copyReportCall, featureByteCall, featuresCall, recoloured, setFeaturesCall, stageCall, storeTcLimitCall, tcStepCall, xyStepCall}
 use Rattle.calls.specs.Memory.{advancesCall, clearNumberCall, implementsCall, memoryLocationCall, rebanked, setLastCall, setLocationCall, setLockCall, setUnitCall, writeMemoryCall}
@@ -49,7 +47,7 @@ opened-judged g b d e =
 
 -- ## Every call
 
-pub exactly : (c : Call) (g : Gear) → Judged (refusalOf c g) g (perform c g)
+pub exactly : RefusesExactly perform
 unfolding perform recoloured rebanked activateCall actualLevelCall advancesCall applyStandardWrite automaticCall clearNumberCall colorValueCall colourStatusCall controlCall copyReportCall directArcPower failureBitsCall featureByteCall featuresCall gearQueryReply hearCall hearElsewhereCall holdsCall implementsCall lampFailureCall lampOnCall matchesCall memoryLocationCall powerCycleCall setEnabledCall setFaultsCall setFeaturesCall setLampFailureCall setLampStartingCall setLastCall setLocationCall setLockCall setUnitCall stageCall statusCall storeTcLimitCall tcStepCall thermalCall typeCall writeMemoryCall xyStepCall
 exactly (StandardWrite byte dtr0) g = served g _ _ (opened-judged g byte dtr0)
 exactly (ArcPower level) g = served g _ none (λ e. refl)
@@ -92,7 +90,3 @@ exactly (SetEnabled enabled) g = served g _ none (λ e. refl)
 exactly (SetLampFailure failure) g = served g _ none (λ e. refl)
 exactly (SetLampStarting starting) g = served g _ none (λ e. refl)
 exactly (SetFaults faults) g = served g _ none (λ e. refl)
-
--- the same of the Rattle functions: whatever outcome meets the call's own promise
-pub promised-exactly : (c : Call) (g : Gear) (o : Outcome) → Promised c g o → Judged (refusalOf c g) g o
-promised-exactly c g o p = rw (promised-rule c g o p) (exactly c g)

@@ -1,59 +1,67 @@
 -- Every call keeps a fit record fit, and every call but the power cycle the bounds of the level.
-use mathlib.Core.Path.{refl}
-use Rattle.demands.specs.Calls.{perform}
+use mathlib.Core.Path.{_≡_, refl}
+use mathlib.Core.Bool.{true}
+use Rattle.demands.specs.Calls.{Call, perform}
 use Rattle.demands.specs.Calls.Call.{StandardWrite, ArcPower, Query, Matches, TcStep, XyStep, StoreTcLimit, Stage, Activate, CopyReport, SetFeatures, ColorValue, ColourStatus, Features, ControlByte, FeatureByte, Automatic, ReadMemory, WriteMemory, AdvancesDtr0, ImplementsBank, SetLockByte, SetLocation, SetGearUnit, SetLastOffset, ClearNumber, Hear, HoldsFrame, HearElsewhere, PowerCycle, StatusByte, LampOn, FailureBits, ThermalShutDown, LampFailure, ActualLevel, IsType, SetEnabled, SetLampFailure, SetLampStarting, SetFaults}
-use Rattle.demands.specs.Kept.{KeepsFit, KeepsBounds}
+use Rattle.demands.specs.Kept.{Sized, KeepsFit, KeepsBounds}
+use Rattle.demands.proofs.Fit.{fit-exactly}
 use Rattle.calls.proofs.Kept.{activate-kept, clear-number-kept, copy-report-kept, hear-elsewhere-kept, hear-kept, power-cycle-kept, set-enabled-kept, set-faults-kept, set-features-kept, set-lamp-failure-kept, set-lamp-starting-kept, set-last-kept, set-location-kept, set-lock-kept, set-unit-kept, stage-kept, store-tc-limit-kept, tc-step-kept, write-memory-kept, xy-step-kept}
 use Rattle.calls.proofs.Levels.{levels-left}
+use Rattle.gear.specs.declared.record.Gear.{Gear}
+use Rattle.gear.specs.Record.{fitb}
 use Rattle.gear.proofs.Bounds.{arc-power-bounded, standard-write-bounded}
 use Rattle.gear.proofs.Kept.{arc-power-kept, standard-write-kept}
 use Rattle.query.proofs.Kept.{gear-query-kept, gear-query-levels}
 
-pub keeps-fit : KeepsFit
+-- by the test of the code
+keeps-tested : (c : Call) (g : Gear) → Sized c → fitb g ≡ true → fitb (perform c g .gear) ≡ true
 unfolding perform
-keeps-fit (StandardWrite byte dtr0) g h e = standard-write-kept g byte dtr0 e
-keeps-fit (ArcPower level) g h e = arc-power-kept g level e
-keeps-fit (Query byte) g h e = gear-query-kept g byte e
-keeps-fit (Matches whom) g h e = e
-keeps-fit (TcStep warmer) g h e = tc-step-kept g warmer e
-keeps-fit (XyStep y up) g h e = xy-step-kept g y up e
-keeps-fit (StoreTcLimit value selector) g h e = store-tc-limit-kept g value selector (h value selector refl) e
-keeps-fit (Stage setting) g h e = stage-kept g setting e
-keeps-fit Activate g h e = activate-kept g e
-keeps-fit CopyReport g h e = copy-report-kept g e
-keeps-fit (SetFeatures features) g h e = set-features-kept g features e
-keeps-fit (ColorValue id) g h e = e
-keeps-fit ColourStatus g h e = e
-keeps-fit Features g h e = e
-keeps-fit ControlByte g h e = e
-keeps-fit FeatureByte g h e = e
-keeps-fit Automatic g h e = e
-keeps-fit (ReadMemory bank offset) g h e = e
-keeps-fit (WriteMemory bank offset value) g h e = write-memory-kept g bank offset value e
-keeps-fit (AdvancesDtr0 bank offset) g h e = e
-keeps-fit (ImplementsBank bank) g h e = e
-keeps-fit (SetLockByte value) g h e = set-lock-kept g value e
-keeps-fit (SetLocation offset value) g h e = set-location-kept g offset value e
-keeps-fit (SetGearUnit units index) g h e = set-unit-kept g units index e
-keeps-fit (SetLastOffset last) g h e = set-last-kept g last e
-keeps-fit ClearNumber g h e = clear-number-kept g e
-keeps-fit (Hear frame repeats) g h e = hear-kept g frame repeats e
-keeps-fit (HoldsFrame frame) g h e = e
-keeps-fit HearElsewhere g h e = hear-elsewhere-kept g e
-keeps-fit PowerCycle g h e = power-cycle-kept g e
-keeps-fit StatusByte g h e = e
-keeps-fit LampOn g h e = e
-keeps-fit FailureBits g h e = e
-keeps-fit ThermalShutDown g h e = e
-keeps-fit LampFailure g h e = e
-keeps-fit ActualLevel g h e = e
-keeps-fit (IsType code) g h e = e
-keeps-fit (SetEnabled enabled) g h e = set-enabled-kept g enabled e
-keeps-fit (SetLampFailure failure) g h e = set-lamp-failure-kept g failure e
-keeps-fit (SetLampStarting starting) g h e = set-lamp-starting-kept g starting e
-keeps-fit (SetFaults faults) g h e = set-faults-kept g faults e
+keeps-tested (StandardWrite byte dtr0) g h e = standard-write-kept g byte dtr0 e
+keeps-tested (ArcPower level) g h e = arc-power-kept g level e
+keeps-tested (Query byte) g h e = gear-query-kept g byte e
+keeps-tested (Matches whom) g h e = e
+keeps-tested (TcStep warmer) g h e = tc-step-kept g warmer e
+keeps-tested (XyStep y up) g h e = xy-step-kept g y up e
+keeps-tested (StoreTcLimit value selector) g h e = store-tc-limit-kept g value selector (h value selector refl) e
+keeps-tested (Stage setting) g h e = stage-kept g setting e
+keeps-tested Activate g h e = activate-kept g e
+keeps-tested CopyReport g h e = copy-report-kept g e
+keeps-tested (SetFeatures features) g h e = set-features-kept g features e
+keeps-tested (ColorValue id) g h e = e
+keeps-tested ColourStatus g h e = e
+keeps-tested Features g h e = e
+keeps-tested ControlByte g h e = e
+keeps-tested FeatureByte g h e = e
+keeps-tested Automatic g h e = e
+keeps-tested (ReadMemory bank offset) g h e = e
+keeps-tested (WriteMemory bank offset value) g h e = write-memory-kept g bank offset value e
+keeps-tested (AdvancesDtr0 bank offset) g h e = e
+keeps-tested (ImplementsBank bank) g h e = e
+keeps-tested (SetLockByte value) g h e = set-lock-kept g value e
+keeps-tested (SetLocation offset value) g h e = set-location-kept g offset value e
+keeps-tested (SetGearUnit units index) g h e = set-unit-kept g units index e
+keeps-tested (SetLastOffset last) g h e = set-last-kept g last e
+keeps-tested ClearNumber g h e = clear-number-kept g e
+keeps-tested (Hear frame repeats) g h e = hear-kept g frame repeats e
+keeps-tested (HoldsFrame frame) g h e = e
+keeps-tested HearElsewhere g h e = hear-elsewhere-kept g e
+keeps-tested PowerCycle g h e = power-cycle-kept g e
+keeps-tested StatusByte g h e = e
+keeps-tested LampOn g h e = e
+keeps-tested FailureBits g h e = e
+keeps-tested ThermalShutDown g h e = e
+keeps-tested LampFailure g h e = e
+keeps-tested ActualLevel g h e = e
+keeps-tested (IsType code) g h e = e
+keeps-tested (SetEnabled enabled) g h e = set-enabled-kept g enabled e
+keeps-tested (SetLampFailure failure) g h e = set-lamp-failure-kept g failure e
+keeps-tested (SetLampStarting starting) g h e = set-lamp-starting-kept g starting e
+keeps-tested (SetFaults faults) g h e = set-faults-kept g faults e
 
-pub keeps-bounds : KeepsBounds
+pub keeps-fit : KeepsFit perform
+keeps-fit c g h f = fit-exactly (perform c g .gear) .1 (keeps-tested c g h (fit-exactly g .0 f))
+
+pub keeps-bounds : KeepsBounds perform
 unfolding perform
 keeps-bounds (StandardWrite byte dtr0) g h b = standard-write-bounded g byte dtr0 b
 keeps-bounds (ArcPower level) g h b = arc-power-bounded g level b

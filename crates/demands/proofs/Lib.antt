@@ -1,9 +1,14 @@
 pub mod Answers
+pub mod AskedByte
 pub mod Blind
 pub mod Bytes
 pub mod Demands
 pub mod Exactly
+pub mod Example
+pub mod Fit
 pub mod Given
+pub mod Host
+pub mod Impostors
 pub mod Kept
 pub mod Named
 pub mod Outcome
@@ -23,4 +28,6 @@ pub mod ProfileAndFile
 pub mod Promises
 pub mod Readings
 pub mod Runs
+pub mod Sessions
+pub mod StepByStep
 pub mod Steps

@@ -82,7 +82,7 @@ named (SetFaults faults) = tt
 -- ## From the table to each number
 
 -- a refusal that was given is the one that the table names
-told-named : (t : Option Refusal) (g : Gear) (o : Outcome) (r : Refusal) → Judged t g o → o .answer ≡ Refused r → t ≡ some r
+pub told-named : (t : Option Refusal) (g : Gear) (o : Outcome) (r : Refusal) → Judged t g o → o .answer ≡ Refused r → t ≡ some r
 told-named none g o r j e = no-false (sym j ∙ ap isRefusal e)
 told-named (some q) g o r j e = ap some (let same : Refused q ≡ Refused r = sym (ap (λ (x : Outcome). x .answer) j) ∙ e in cc)
 

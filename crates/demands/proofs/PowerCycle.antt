@@ -8,6 +8,7 @@ use Rattle.demands.specs.Calls.{perform}
 use Rattle.demands.specs.Kept.{PowerCycleBreaks}
 use Rattle.demands.specs.Readings.{startOf}
 use Rattle.demands.specs.Table.{led, setMaxLevel}
+use Rattle.demands.proofs.Fit.{fit-exactly}
 use Rattle.calls.specs.Power.{powerCycle, powerCycleCall}
 use Rattle.colour.specs.Limits.{effectiveCoolest, effectiveWarmest, limitsFit}
 use Rattle.colour.specs.Record.{fitb as colourFit, fresh}
@@ -26,6 +27,12 @@ out : (_≡_ {A = ℕ} 254 0) ⊎ ((1 ≤ 254) × (254 ≤ 200)) → ⊥
 out (inl e) = omega arith
 out (inr (low, high)) = omega arith
 
-pub power-cycle-breaks : PowerCycleBreaks
+pub power-cycle-breaks : PowerCycleBreaks perform
 unfolding perform accepted applyStandardWrite colourFit commandOf configCommand configWrite configured effectiveCoolest effectiveWarmest factory fitb fixed floor fresh freshGear hasType isType levelCommand levelsFit liesWithin limitsFit maxLevels member newGear powerCycle powerCycleCall powerUp readjust readjusts serve shortFit tell unitFit walkFit write
-power-cycle-breaks = record { gear = startOf led (setMaxLevel 200 ∷ []); fit = refl; bounded = inl refl; broken = out }
+power-cycle-breaks =
+    record {
+      gear = startOf perform led (setMaxLevel 200 ∷ []);
+      fit = fit-exactly _ .1 refl;
+      bounded = inl refl;
+      broken = out;
+    }

@@ -28,7 +28,8 @@ use Rattle.gear.specs.Types.{hasType, member}
 use Rattle.gear.specs.Write.{applyStandardWrite, arcWrite, configWrite, directArcPower, keepsIdentify, recalledLevels, recallScene, setMin, setScene as storeScene, write}
 use Rattle.level.specs.Arc.{arcLevels, arcPower as arcLevel, levelDown, levelUp, stepDownAndOff as offLevels}
 use Rattle.level.specs.Levels.{held, levelsFit, readjust, readjusts, setLevel, setMaxLevel as maxLevels, setMinLevel as minLevels}
-use Rattle.query.specs.Reply.{gearQueryReply, query}
+use Rattle.query.specs.Lamp.{actualLevel, overheated, showsLevel}
+use Rattle.query.specs.Reply.{gearQueryReply, heardQuery, isQuery, isSettingQuery, isStatusQuery, query, reply, reported, settingReply, statusReply, yes}
 use Rattle.query.specs.Walk.{deviceType, next, nextAt, nextDeviceType, typeAt}
 use Rattle.step.specs.Step.{temperature}
 use Rattle.gear.specs.declared.record.Gear.{Gear}
@@ -43,14 +44,14 @@ _&_ a b = (a, b)
 apart : {A : Type 0} {x y : A} (test : A → Bool) → test x ≡ true → test y ≡ false → x ≡ y → ⊥
 apart test p q e = no-false (sym q ∙ ap test (sym e) ∙ p)
 
-pub readings : Readings
-unfolding perform accepted activate activateCall activated applyStandardWrite arcLevel arcLevels arcPower arcWrite asked automatic build buildBank0 buildBank1 captured colorValue colorValueCall colourAt colourFit colourStatus colourStatusCall commandOf configCommand configWrite configured deviceType directArcPower effectiveCoolest effectiveWarmest face factory fitb fixed flag floor fresh freshGear gearQueryReply hasType held identityLocation isType keepsIdentify kindOf lacksIndicatorByte levelAt levelCommand levelDown levelUp levelsFit liesWithin limitsFit load loadTemporariesFrom locationAnswer maxLevels member memoryLocation memoryLocationCall minLevels newGear next nextAt nextDeviceType offLevels profileLocation profileWritable query readjust readjusts rebanked recall recallScene recalledLevels recoloured serve setFeaturesCall setLevel setMin shortFit snapped snaps stageCall storeCoolest storeLimit storeProfile storeScene storeTcLimit storeTcLimitCall storeWarmest stored storedBank strays takeStagedColour tell temperature typeAt unitFit unlinked valueAnswer walkFit withFeatures writable write writeMemoryCall writeMemoryLocation
+pub readings : Readings perform
+unfolding perform accepted activate activateCall activated actualLevel applyStandardWrite arcLevel arcLevels arcPower arcWrite asked automatic build buildBank0 buildBank1 captured colorValue colorValueCall colourAt colourFit colourStatus colourStatusCall commandOf configCommand configWrite configured deviceType directArcPower effectiveCoolest effectiveWarmest face factory fitb fixed flag floor fresh freshGear gearQueryReply hasType heardQuery held identityLocation isQuery isSettingQuery isStatusQuery isType keepsIdentify kindOf lacksIndicatorByte levelAt levelCommand levelDown levelUp levelsFit liesWithin limitsFit load loadTemporariesFrom locationAnswer maxLevels member memoryLocation memoryLocationCall minLevels newGear next nextAt nextDeviceType offLevels overheated profileLocation profileWritable query readjust readjusts rebanked recall recallScene recalledLevels recoloured reply reported serve setFeaturesCall setLevel settingReply setMin shortFit showsLevel snapped snaps stageCall statusReply storeCoolest storeLimit storeProfile storeScene storeTcLimit storeTcLimitCall storeWarmest stored storedBank strays takeStagedColour tell temperature typeAt unitFit unlinked valueAnswer walkFit withFeatures writable write writeMemoryCall writeMemoryLocation yes
 readings =
     (tt & refl & refl & refl & tt) &
-    ((refl & refl & refl & tt) & refl & refl & refl & tt) &
+    ((refl & refl & refl & tt) & refl & refl & refl & refl & refl & tt) &
     ((refl & refl & refl & tt) & refl & refl & refl & tt) &
     ((refl & refl & tt) & refl & refl & tt) &
-    ((refl & tt) & refl & refl & tt) &
+    ((refl & refl & tt) & refl & refl & tt) &
     ((refl & tt) & refl & refl & tt) &
     (((refl, refl) & (refl, refl) & tt) & refl & refl & (refl, refl) & tt) &
     (((refl, refl) & (refl, refl) & tt) & refl & refl & (refl, refl) & tt) &

@@ -60,11 +60,15 @@ pub data Call : Type 0 where
   SetLampStarting : (starting : Bool) → Call
   SetFaults : (faults : Faults) → Call
 
+-- How calls may behave: what each gives on each record. The rules are one such behaviour, an impostor is another.
+abbrev pub Behaviour : Type 0
+Behaviour = Call → Gear → Outcome
+
 -- a call that only answers hands back no record: the caller's own stays as it was
 abbrev pub told : Gear → Answer → Outcome
 told g a = record { answer = a; gear = g }
 
-unfoldable pub perform : Call → Gear → Outcome
+unfoldable pub perform : Behaviour
 perform (StandardWrite byte dtr0) g = applyStandardWrite g byte dtr0
 perform (ArcPower level) g = directArcPower g level
 perform (Query byte) g = gearQueryReply g byte

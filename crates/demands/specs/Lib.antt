@@ -1,12 +1,17 @@
 pub mod Blind
 pub mod Calls
 pub mod Demands
+pub mod Example
+pub mod Fit
 pub mod Given
+pub mod Host
+pub mod Impostors
 pub mod Kept
 pub mod Outcome
 pub mod Promises
 pub mod Readings
 pub mod Refusals
 pub mod Runs
+pub mod Sessions
 pub mod Steps
 pub mod Table

@@ -1,9 +1,9 @@
--- How a reading of document 01 is written down, and when it holds, by the rules alone.
+-- How a reading of document 01 is written down, and when it holds of calls that behave in some way.
 use Prim.Native.Nat.{ℕ}
 use mathlib.Core.Path.{_≡_}
 use mathlib.Core.Bool.{Bool}
 use mathlib.Core.List.{List, [], _∷_}
-use Rattle.demands.specs.Calls.{Call, perform}
+use Rattle.demands.specs.Calls.{Behaviour, Call}
 use Rattle.colour.specs.Activation.{automatic}
 use Rattle.colour.specs.declared.tint.ColorMode.the-variants.{Cct}
 use Rattle.gear.specs.declared.answer.Answer.{Answer}
@@ -47,14 +47,14 @@ AllSeen (sight ∷ sights) g = Seen sight g × AllSeen sights g
 -- ## A reading
 
 -- the record that calls leave
-abbrev pub after : List Call → Gear → Gear
-after [] g = g
-after (call ∷ calls) g = after calls (perform call g .gear)
+abbrev pub after : Behaviour → List Call → Gear → Gear
+after f [] g = g
+after f (call ∷ calls) g = after f calls (f call g .gear)
 
 -- calls, each with the answer that it gets; and what is seen of the record that they leave
-abbrev pub Answered : List (Call × Answer) → List Sight → Gear → Type 0
-Answered [] sights g = AllSeen sights g
-Answered (asked ∷ more) sights g = (perform (asked .0) g .answer ≡ asked .1) × Answered more sights (perform (asked .0) g .gear)
+abbrev pub Answered : Behaviour → List (Call × Answer) → List Sight → Gear → Type 0
+Answered f [] sights g = AllSeen sights g
+Answered f (asked ∷ more) sights g = (f (asked .0) g .answer ≡ asked .1) × Answered f more sights (f (asked .0) g .gear)
 
 -- P number: a profile; the calls from its fresh gear to the start, and what is seen there; then
 pub data Reading : Type 0 where
@@ -63,15 +63,19 @@ pub data Reading : Type 0 where
   -- two calls, after which the records differ by their order
   OrdersDiffer : (number : ℕ) (profile : Profile) (start : List Call) (there : List Sight) (one other : Call) → Reading
 
-abbrev pub startOf : Profile → List Call → Gear
-startOf profile start = after start (newGear profile .gear)
+abbrev pub number : Reading → ℕ
+number (Shows n profile start there calls seen) = n
+number (OrdersDiffer n profile start there one other) = n
 
-abbrev pub Holds : Reading → Type 0
-Holds (Shows number profile start there calls seen) = AllSeen there (startOf profile start) × Answered calls seen (startOf profile start)
-Holds (OrdersDiffer number profile start there one other) =
-    AllSeen there (startOf profile start) ×
-    (after (one ∷ other ∷ []) (startOf profile start) ≡ after (other ∷ one ∷ []) (startOf profile start) → ⊥)
+abbrev pub startOf : Behaviour → Profile → List Call → Gear
+startOf f profile start = after f start (newGear profile .gear)
 
-abbrev pub AllHold : List Reading → Type 0
-AllHold [] = Unit {0}
-AllHold (reading ∷ readings) = Holds reading × AllHold readings
+abbrev pub Holds : Behaviour → Reading → Type 0
+Holds f (Shows n profile start there calls seen) = AllSeen there (startOf f profile start) × Answered f calls seen (startOf f profile start)
+Holds f (OrdersDiffer n profile start there one other) =
+    AllSeen there (startOf f profile start) ×
+    (after f (one ∷ other ∷ []) (startOf f profile start) ≡ after f (other ∷ one ∷ []) (startOf f profile start) → ⊥)
+
+abbrev pub AllHold : Behaviour → List Reading → Type 0
+AllHold f [] = Unit {0}
+AllHold f (reading ∷ readings) = Holds f reading × AllHold f readings

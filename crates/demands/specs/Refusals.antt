@@ -5,7 +5,7 @@ use mathlib.Core.List.{List, [], _∷_}
 use mathlib.Core.Option.{Option, none, some}
 use mathlib.Core.Path.{_≡_}
 use lib.Dec.{leb, ltb}
-use Rattle.demands.specs.Calls.{Call}
+use Rattle.demands.specs.Calls.{Behaviour, Call}
 use Rattle.demands.specs.Calls.Call.{StandardWrite, ArcPower, Query, Matches, TcStep, XyStep, StoreTcLimit, Stage, Activate, CopyReport, SetFeatures, ColorValue, ColourStatus, Features, ControlByte, FeatureByte, Automatic, ReadMemory, WriteMemory, AdvancesDtr0, ImplementsBank, SetLockByte, SetLocation, SetGearUnit, SetLastOffset, ClearNumber, Hear, HoldsFrame, HearElsewhere, PowerCycle, StatusByte, LampOn, FailureBits, ThermalShutDown, LampFailure, ActualLevel, IsType, SetEnabled, SetLampFailure, SetLampStarting, SetFaults}
 use Rattle.calls.specs.declared.address.Address.{Address}
 use Rattle.calls.specs.declared.address.Address.the-variants.{Short, Group, Broadcast, Unaddressed}
@@ -101,3 +101,7 @@ isRefusal (Refused r) = true
 abbrev pub Judged : Option Refusal → Gear → Outcome → Type 0
 Judged none g o = isRefusal (o .answer) ≡ false
 Judged (some r) g o = o ≡ refused g r
+
+-- Demand 1: every call of every record is refused exactly as the table says
+abbrev pub RefusesExactly : Behaviour → Type 0
+RefusesExactly f = (c : Call) (g : Gear) → Judged (refusalOf c g) g (f c g)

@@ -1,17 +1,19 @@
--- Document 01's readings P1 to P13 as one table, under a single statement about the rules: `Readings`.
+-- Document 01's readings P1 to P13 as one table, under a single statement: `Readings`.
 use Prim.Native.Nat.{ℕ, _+_}
 use mathlib.Core.Bool.{Bool, true, false}
 use mathlib.Core.List.{List, [], _∷_}
+use lib.Dec.{eqb}
 use lib.ListN.{replicate}
-use Rattle.demands.specs.Calls.{Call}
+use Rattle.demands.specs.Calls.{Behaviour, Call}
 use Rattle.demands.specs.Calls.Call.{StandardWrite, ArcPower, Query, StoreTcLimit, Stage, Activate, SetFeatures, ColorValue, ColourStatus, ReadMemory, WriteMemory}
-use Rattle.demands.specs.Readings.{Reading, AllHold}
+use Rattle.demands.specs.Readings.{Reading, AllHold, number}
 use Rattle.demands.specs.Readings.Reading.{Shows, OrdersDiffer}
 use Rattle.demands.specs.Readings.Sight.{Level, LimitError, Min, Max, PhysicalMin, ActiveTc, StagedTc, SceneTc, Limits, PhysicalLimits, Activation}
 use Rattle.gear.specs.declared.answer.Answer.{Answer}
 use Rattle.gear.specs.declared.answer.Answer.the-variants.{Done, Value, Nothing}
 use Rattle.gear.specs.declared.profile.Profile.{Profile}
 use Rattle.gear.specs.declared.profile.Short.the-variants.{Missing}
+use Rattle.numbers.specs.Numbers.{pick}
 use Rattle.step.specs.Step.{temperature}
 
 -- ## Gears and calls by name
@@ -90,14 +92,14 @@ table =
     Shows 1 led [] [] ((stepUp, Done) ∷ []) (Level 0 ∷ LimitError false ∷ []) ∷
     -- P2 at max 200, StepUp: 200, limit error.
     Shows 2 led (setMaxLevel 200 ∷ ArcPower 200 ∷ []) (Max 200 ∷ Level 200 ∷ LimitError false ∷ [])
-    ((stepUp, Done) ∷ []) (Level 200 ∷ LimitError true ∷ []) ∷
+    ((stepUp, Done) ∷ (Query 160, Value 200) ∷ (Query 148, Value 255) ∷ []) (Level 200 ∷ LimitError true ∷ []) ∷
     -- P3 at min 10, StepDown: 10, cleared;
     Shows 3 led (setMinLevel 10 ∷ ArcPower 5 ∷ []) (Min 10 ∷ Level 10 ∷ LimitError true ∷ [])
     ((stepDown, Done) ∷ []) (Level 10 ∷ LimitError false ∷ []) ∷
     -- StepDownAndOff: 0.
     Shows 3 led (setMinLevel 10 ∷ ArcPower 5 ∷ []) (Min 10 ∷ Level 10 ∷ []) ((stepDownAndOff, Done) ∷ []) (Level 0 ∷ []) ∷
     -- P4 SetMaxLevel 255 with min 1: 254;
-    Shows 4 led [] (Min 1 ∷ []) ((setMaxLevel 255, Done) ∷ []) (Max 254 ∷ []) ∷
+    Shows 4 led (setMaxLevel 200 ∷ []) (Min 1 ∷ Max 200 ∷ []) ((setMaxLevel 255, Done) ∷ []) (Max 254 ∷ []) ∷
     -- 0 with min 10: 10.
     Shows 4 led (setMinLevel 10 ∷ []) (Min 10 ∷ []) ((setMaxLevel 0, Done) ∷ []) (Max 10 ∷ []) ∷
     -- P5 physical 153..400, staged 100: 153, colour status 0x22;
@@ -133,5 +135,13 @@ table =
     []
 
 -- every row holds
-abbrev pub Readings : Type 0
-Readings = AllHold table
+abbrev pub Readings : Behaviour → Type 0
+Readings f = AllHold f table
+
+-- the rows of one reading
+abbrev pub numbered : ℕ → List Reading → List Reading
+numbered n [] = []
+numbered n (reading ∷ readings) = pick (eqb (number reading) n) (reading ∷ numbered n readings) (numbered n readings)
+
+abbrev pub RowsOf : ℕ → Behaviour → Type 0
+RowsOf n f = AllHold f (numbered n table)

@@ -68,7 +68,7 @@ config-kept g (RemoveScene s) d f = record { unit = f .unit; levels = f .levels;
 config-kept g (AddToGroup n) d f = record { unit = f .unit; levels = f .levels; colour = f .colour; walk = refl }
 config-kept g (RemoveFromGroup n) d f = record { unit = f .unit; levels = f .levels; colour = f .colour; walk = refl }
 
-reset-kept : (g : Gear) → GearFit g → GearFit (resetGear g)
+reset-kept : (g : Gear) → GearFit g → GearFit (resetGear (g .unit) (g .enabled) (g .faults) (g .colour))
 unfolding resetGear walkFit
 reset-kept g f =
     let m = floor-low 16 (g .unit) (f .unit) in

@@ -8,6 +8,7 @@ use Rattle.gear.specs.declared.answer.Refusal.the-variants.{Profile as P
 use Rattle.gear.specs.declared.marks.Marks.{Marks}
 use Rattle.gear.specs.declared.profile.Profile.{Profile}
 use Rattle.gear.specs.declared.profile.Unit.{Unit}
+use Rattle.gear.specs.declared.record.Faults.{Faults}
 use Rattle.gear.specs.declared.record.Gear.{Gear}
 use Rattle.gear.specs.declared.record.LevelSetting.{LevelSetting}
 use Rattle.gear.specs.Answer.{done, refused}
@@ -15,6 +16,7 @@ use Rattle.gear.specs.Marks.{freshMarks, resetMarks, walkFit}
 use Rattle.gear.specs.Profile.{isType, floor, unitFit, accepted, noProfile}
 use Rattle.bank.specs.Build.{build}
 use Rattle.colour.specs.declared.record.Capabilities.{Capabilities}
+use Rattle.colour.specs.declared.record.Colour.{Colour}
 use Rattle.colour.specs.Record.{fresh as freshColour, reset as resetColour, fitb as colourFit}
 use Rattle.colour.specs.Setting.{mask, factory}
 use Rattle.level.specs.Levels.{fresh as freshLevels, levelsFit}
@@ -56,22 +58,22 @@ fitb g =
     (both (levelsFit (floor (g .unit)) (g .levels)) (both (colourFit (g .colour)) (walkFit (g .marks .walk))))
 
 -- profile, enabled, faults and the active colour stay; both banks are rebuilt; no power cycle is seen
-unfoldable pub resetGear : Gear → Gear
-resetGear g =
+unfoldable pub resetGear : Unit → Bool → Faults → Colour → Gear
+resetGear u enabled faults c =
     record {
-      unit = g .unit;
-      enabled = g .enabled;
-      levels = freshLevels (g .unit .minimum);
+      unit = u;
+      enabled = enabled;
+      levels = freshLevels (u .minimum);
       marks = resetMarks;
-      on = factorySetting (g .unit) (g .colour .can);
-      failure = factorySetting (g .unit) (g .colour .can);
+      on = factorySetting u (c .can);
+      failure = factorySetting u (c .can);
       fades = record { time = 0; rate = 7; extended = 0 };
       groups = replicate 16 false;
       scenes = replicate 16 255;
       colours = replicate 16 mask;
       lamp = record { failure = false; starting = false };
-      faults = g .faults;
+      faults = faults;
       curve = 0;
-      colour = resetColour (g .colour);
-      banks = build (g .unit .random);
+      colour = resetColour c;
+      banks = build (u .random);
     }

@@ -200,7 +200,7 @@ enableWrite g = withMarks g (enabled (g .marks))
 unfoldable pub write : Gear → StandardCommand → ℕ → Outcome
 write g (Arc a) d = done (arcWrite g a)
 write g (GoToScene s) d = done (recallScene g s)
-write g Reset d = done (resetGear g)
+write g Reset d = done (resetGear (g .unit) (g .enabled) (g .faults) (g .colour))
 write g IdentifyDevice d = done (identify g)
 write g (Config k) d = done (configWrite g k d)
 write g EnableWriteMemory d = done (enableWrite g)

@@ -147,12 +147,9 @@ impl Gear {
 
     // Part 102, 11.4.2 and part 209, table 8: a reset keeps the profile, enabled, the faults and the active colour; the rest is
     // that of a new gear, whose power cycle was seen.
-    pub fn reset_gear(self) -> Gear
-        ensures { λ r. ⌜ r ≡ resetGear self ⌝ }
+    pub fn reset_gear(unit: Unit, enabled: bool, faults: Faults, colour: Colour) -> Gear
+        ensures { λ r. ⌜ r ≡ resetGear unit enabled faults colour ⌝ }
     {
-        let unit = self.unit;
-        let colour = self.colour;
-        let faults = self.faults;
         let can = colour.can;
         let mut next = Gear::fresh(Profile {
             unit: unit,
@@ -160,7 +157,7 @@ impl Gear {
             coolest: 0,
             warmest: 0,
         });
-        next.enabled = self.enabled;
+        next.enabled = enabled;
         next.faults = faults;
         next.marks = Marks::reset();
         next.colour = colour.reset();

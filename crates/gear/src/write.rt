@@ -198,7 +198,9 @@ fn write(gear: Gear, command: StandardCommand, dtr0: u8) -> Outcome
     match command {
         StandardCommand::Arc(arc) => done(arc_write(gear, arc)),
         StandardCommand::GoToScene(scene) => done(recall_scene(gear, scene)),
-        StandardCommand::Reset => done(gear.reset_gear()),
+        StandardCommand::Reset => {
+            done(Gear::reset_gear(gear.unit, gear.enabled, gear.faults, gear.colour))
+        }
         StandardCommand::IdentifyDevice => done(identify(gear)),
         StandardCommand::Config(config) => done(config_write(gear, config, dtr0)),
         StandardCommand::EnableWriteMemory => done(enable_write(gear)),

@@ -20,6 +20,7 @@ use Rattle.colour.specs.declared.tint.ColorMode.the-variants.{None}
 use Rattle.colour.specs.Staging.{loadTemporariesFrom}
 use Rattle.colour.specs.Steps.{storeTcLimit, tcStep, xyStep}
 use Rattle.demands.specs.Calls.{perform as performCall}
+use Rattle.demands.proofs.Fit.{fit-exactly}
 use Rattle.gear.specs.declared.record.Gear.{Gear}
 use Rattle.gear.specs.Record.{fitb}
 use Rattle.gear.proofs.Kept as Writes
@@ -71,7 +72,7 @@ ready-kept w g k h =
     let calm = carry-calm (row w) g (record { unstaged = h .unstaged; activates = h .activates }) in
     let same : after w g .colour ≡ carry (row w) g .colour = ap (λ x. x .colour) (rowed w g k h) in
     record {
-      fit = fit-kept w g (k .sized) (h .fit);
+      fit = fit-exactly (after w g) .1 (fit-kept w g (k .sized) (fit-exactly g .0 (h .fit)));
       unstaged = ap (λ c. c .pending .mode) same ∙ calm .unstaged;
       activates = ap automatic same ∙ calm .activates;
     }

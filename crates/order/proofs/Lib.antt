@@ -1,6 +1,8 @@
 pub mod Bytes
 pub mod Columns
 pub mod EveryOrder
+pub mod Files
+pub mod Ignored
 pub mod Kept
 pub mod Needed
 pub mod Orders
@@ -13,3 +15,4 @@ pub mod Slots
 pub mod Swap
 pub mod Test
 pub mod Tied
+pub mod TwoFiles

@@ -20,6 +20,7 @@ use Rattle.colour.specs.Setting.{factory, mask}
 use Rattle.colour.specs.Staging.{load, loadTemporariesFrom, takeStagedColour}
 use Rattle.colour.specs.Tint.{captured, liesWithin}
 use Rattle.demands.specs.Calls.{perform as performCall}
+use Rattle.demands.proofs.Fit.{fit-exactly}
 use Rattle.gear.specs.Command.{commandOf, configCommand, levelCommand}
 use Rattle.gear.specs.declared.record.Gear.{Gear}
 use Rattle.gear.specs.Marks.{asked, configured, identified, walkFit}
@@ -43,7 +44,7 @@ pub staged-matters : StagedMatters staged (Standard 64 10 ∷ Standard 65 20 ∷
 unfolding run perform performCall callOf keys commandKeys configKeys commandOf levelCommand configCommand applyStandardWrite write configWrite setScene takeStagedColour captured stored colourAt stageCall recoloured loadTemporariesFrom load configured serve fitb freshGear fresh factory unitFit shortFit floor isType hasType member levelsFit colourFit limitsFit effectiveCoolest effectiveWarmest liesWithin walkFit automatic
 staged-matters =
     record {
-      fit = refl;
+      fit = fit-exactly _ .1 refl;
       activates = refl;
       listed = listed-sound (Standard 64 10 ∷ Standard 65 20 ∷ []) refl;
       differ =
@@ -60,7 +61,7 @@ pub activation-matters : ActivationMatters manual (Standard 16 0 ∷ Standard 65
 unfolding run perform performCall callOf keys commandKeys configKeys commandOf levelCommand configCommand applyStandardWrite write configWrite setScene takeStagedColour captured stored colourAt levelAt stageCall setFeaturesCall withFeatures recoloured loadTemporariesFrom load configured recallScene recalledLevels recall asked setLevel held serve fitb freshGear fresh factory unitFit shortFit floor isType hasType member levelsFit colourFit limitsFit effectiveCoolest effectiveWarmest liesWithin walkFit arcPower automatic activate activated strays
 activation-matters =
     record {
-      fit = refl;
+      fit = fit-exactly _ .1 refl;
       nothing = record { pending = refl; scenes = All.more refl (All.more tt All.none) };
       listed = listed-sound (Standard 16 0 ∷ Standard 65 20 ∷ []) refl;
       differ =

@@ -19,6 +19,7 @@ use Rattle.colour.specs.Record.{fitb as colourFit, fresh, withFeatures}
 use Rattle.colour.specs.Setting.{factory, mask}
 use Rattle.colour.specs.Staging.{load, loadTemporariesFrom}
 use Rattle.colour.specs.Tint.{liesWithin}
+use Rattle.demands.proofs.Fit.{fit-exactly}
 use Rattle.gear.specs.Command.{commandOf}
 use Rattle.gear.specs.declared.command.StandardCommand.{StandardCommand}
 use Rattle.gear.specs.declared.command.StandardCommand.the-variants.{Arc, GoToScene, Reset, IdentifyDevice, Config, EnableWriteMemory, Unknown}
@@ -68,13 +69,13 @@ all-clean p (w ∷ ws) = All.more (write-clean p w) (all-clean p ws)
 pub fresh-worded : (p : Profile) (ws : List Write) → accepted p ≡ true → Worded (freshGear p) ws
 unfolding freshGear fresh automatic
 fresh-worded p ws e =
-    record { fit = fresh-fit p e; nothing = record { pending = refl; scenes = all-clean p ws }; activates = refl }
+    record { fit = fit-exactly (freshGear p) .1 (fresh-fit p e); nothing = record { pending = refl; scenes = all-clean p ws }; activates = refl }
 
 -- ---- a gear that once activated a colour: ready, and yet not 'nothing staged'
 
 pub used-ready : Ready used
 unfolding freshGear fresh factory stageCall activateCall recoloured loadTemporariesFrom load activate activated strays serve fitb unitFit shortFit floor isType hasType member levelsFit colourFit limitsFit effectiveCoolest effectiveWarmest liesWithin walkFit automatic
-used-ready = record { fit = refl; unstaged = refl; activates = refl }
+used-ready = record { fit = fit-exactly used .1 refl; unstaged = refl; activates = refl }
 
 pub used-staged : (ws : List Write) → NothingStaged used ws → ⊥
 unfolding freshGear fresh factory stageCall activateCall recoloured loadTemporariesFrom load activate activated strays serve fitb unitFit shortFit floor isType hasType member levelsFit colourFit limitsFit effectiveCoolest effectiveWarmest liesWithin walkFit automatic

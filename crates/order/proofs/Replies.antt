@@ -23,6 +23,8 @@ use Rattle.bank.specs.Memory.{writeMemoryLocation}
 use Rattle.calls.specs.Colours.{activateCall, recoloured, storeTcLimitCall, tcStepCall, xyStepCall}
 use Rattle.calls.specs.Memory.{rebanked, writeMemoryCall}
 use Rattle.demands.specs.Calls.{perform as performCall}
+use Rattle.demands.specs.Fit.{Fit}
+use Rattle.demands.proofs.Fit.{fit-exactly}
 use Rattle.gear.specs.Answer.{locationAnswer}
 use Rattle.gear.specs.Command.{commandOf}
 use Rattle.gear.specs.declared.answer.Answer.{Answer}
@@ -31,7 +33,6 @@ use Rattle.gear.specs.declared.answer.Outcome.{Outcome}
 use Rattle.gear.specs.declared.command.StandardCommand.{StandardCommand}
 use Rattle.gear.specs.declared.command.StandardCommand.the-variants.{Arc, GoToScene, Reset, IdentifyDevice, Config, EnableWriteMemory, Unknown}
 use Rattle.gear.specs.declared.record.Gear.{Gear}
-use Rattle.gear.specs.Record.{fitb}
 use Rattle.gear.specs.Serve.{serve}
 use Rattle.gear.specs.Write.{applyStandardWrite, directArcPower, write}
 
@@ -45,9 +46,9 @@ reply (TcLimit v s) b = Done
 reply Activation b = Done
 reply (Memory bank offset v) b = locationAnswer (writeMemoryLocation b false bank offset v .answer)
 
-served : (g : Gear) (o : Outcome) → fitb g ≡ true → serve g o .answer ≡ o .answer
+served : (g : Gear) (o : Outcome) → Fit g → serve g o .answer ≡ o .answer
 unfolding serve
-served g o e = rw e
+served g o f = rw (fit-exactly g .0 f)
 
 command-done : (g : Gear) (k : StandardCommand) (d : ℕ) → (commandKeys k ≡ [] → ⊥) → write g k d .answer ≡ Done
 unfolding write commandKeys
@@ -59,15 +60,15 @@ command-done g (Config k) d n = refl
 command-done g EnableWriteMemory d n = refl
 command-done g Unknown d n = absurd (n refl)
 
-replied : (w : Write) (g : Gear) → Keyed w → fitb g ≡ true → perform w g .answer ≡ reply w (g .banks)
+replied : (w : Write) (g : Gear) → Keyed w → Fit g → perform w g .answer ≡ reply w (g .banks)
 unfolding perform performCall callOf keys directArcPower applyStandardWrite tcStepCall xyStepCall storeTcLimitCall activateCall writeMemoryCall recoloured rebanked writeMemoryLocation
-replied (ArcPower v) g k e = served g _ e
-replied (Standard byte d) g k e = served g _ e ∙ command-done g (commandOf byte) d (k .key)
-replied (TcStep warmer) g k e = served g _ e
-replied (XyStep y up) g k e = served g _ e
-replied (TcLimit v s) g k e = served g _ e
-replied Activation g k e = served g _ e
-replied (Memory bank offset v) g k e = served g _ e
+replied (ArcPower v) g k f = served g _ f
+replied (Standard byte d) g k f = served g _ f ∙ command-done g (commandOf byte) d (k .key)
+replied (TcStep warmer) g k f = served g _ f
+replied (XyStep y up) g k f = served g _ f
+replied (TcLimit v s) g k f = served g _ f
+replied Activation g k f = served g _ f
+replied (Memory bank offset v) g k f = served g _ f
 
 -- ---- a write beside one that it shares no key with
 

@@ -20,6 +20,8 @@ use Rattle.colour.specs.declared.tint.ColorMode.the-variants.{None}
 use Rattle.colour.specs.Staging.{loadTemporariesFrom, takeStagedColour}
 use Rattle.colour.proofs.Left.{activate-none}
 use Rattle.demands.specs.Calls.{perform as performCall}
+use Rattle.demands.specs.Fit.{Fit}
+use Rattle.demands.proofs.Fit.{fit-exactly}
 use Rattle.gear.specs.Command.{commandOf}
 use Rattle.gear.specs.declared.answer.Outcome.{Outcome}
 use Rattle.gear.specs.declared.command.ConfigCommand.{ConfigCommand}
@@ -30,7 +32,6 @@ use Rattle.gear.specs.declared.marks.Marks.{Marks}
 use Rattle.gear.specs.declared.record.Gear.{Gear}
 use Rattle.gear.specs.declared.record.LevelSetting.{LevelSetting}
 use Rattle.gear.specs.Marks.{asked, configured, enabled}
-use Rattle.gear.specs.Record.{fitb}
 use Rattle.gear.specs.Scene.{stored}
 use Rattle.gear.specs.Serve.{serve}
 use Rattle.gear.specs.Write.{applyStandardWrite, arcWrite, configWrite, directArcPower, enableWrite, keepsIdentify, levelSetting, recallScene, recalledLevels, removeScene, sceneColour, sceneLevel, setMin, setPowerOnLevel, setScene, setSystemFailureLevel, withLight, write}
@@ -129,9 +130,9 @@ command-rowed g Unknown d n h = absurd (n refl)
 
 -- ---- calls
 
-served : (g : Gear) (o : Outcome) → fitb g ≡ true → serve g o .gear ≡ o .gear
+served : (g : Gear) (o : Outcome) → Fit g → serve g o .gear ≡ o .gear
 unfolding serve
-served g o e = rw e
+served g o f = rw (fit-exactly g .0 f)
 
 pub rowed : (w : Write) (g : Gear) → Keyed w → Ready g → after w g ≡ carry (row w) g
 unfolding perform performCall callOf row keys carry directArcPower applyStandardWrite tcStepCall xyStepCall storeTcLimitCall activateCall writeMemoryCall recoloured rebanked

@@ -1,6 +1,8 @@
 pub mod Bytes
 pub mod Carry
 pub mod Examples
+pub mod Files
+pub mod Ignored
 pub mod Keys
 pub mod Later
 pub mod Lists
@@ -12,4 +14,5 @@ pub mod Rows
 pub mod Sessions
 pub mod Table
 pub mod Test
+pub mod TwoFiles
 pub mod Writes

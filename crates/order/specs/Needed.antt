@@ -8,8 +8,8 @@ use Rattle.order.specs.Lists.{All, Apart, run}
 use Rattle.order.specs.Premises.{Listed, NothingStaged, Worded}
 use Rattle.order.specs.Writes.{Write, after}
 use Rattle.colour.specs.Activation.{automatic}
+use Rattle.demands.specs.Fit.{Fit}
 use Rattle.gear.specs.declared.record.Gear.{Gear}
-use Rattle.gear.specs.Record.{fitb}
 
 -- two orders of one list that leave different records
 pub record Differ (g : Gear) (ws vs : List Write) : Type 0 where
@@ -18,14 +18,14 @@ pub record Differ (g : Gear) (ws vs : List Write) : Type 0 where
 
 -- all but 'nothing staged' (P11)
 pub record StagedMatters (g : Gear) (ws vs : List Write) : Type 0 where
-  pub fit : fitb g ≡ true
+  pub fit : Fit g
   pub activates : automatic (g .colour) ≡ true
   pub listed : Listed ws
   pub differ : Differ g ws vs
 
 -- all but 'activation on' (P12)
 pub record ActivationMatters (g : Gear) (ws vs : List Write) : Type 0 where
-  pub fit : fitb g ≡ true
+  pub fit : Fit g
   pub nothing : NothingStaged g ws
   pub listed : Listed ws
   pub differ : Differ g ws vs

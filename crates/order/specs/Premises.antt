@@ -11,11 +11,11 @@ use Rattle.colour.specs.Activation.{automatic, recall}
 use Rattle.colour.specs.declared.tint.ColorMode.the-variants.{None}
 use Rattle.colour.specs.Record.{withFeatures}
 use Rattle.colour.specs.Tint.{dark}
+use Rattle.demands.specs.Fit.{Fit}
 use Rattle.gear.specs.Command.{commandOf}
 use Rattle.gear.specs.declared.command.StandardCommand.{StandardCommand}
 use Rattle.gear.specs.declared.command.StandardCommand.the-variants.{Arc, GoToScene, Reset, IdentifyDevice, Config, EnableWriteMemory, Unknown}
 use Rattle.gear.specs.declared.record.Gear.{Gear}
-use Rattle.gear.specs.Record.{fitb}
 use Rattle.gear.specs.Write.{sceneColour}
 
 -- ---- the list
@@ -27,7 +27,7 @@ pub record Listed (ws : List Write) : Type 0 where
 -- ---- the record: fit, no mode staged, activation on
 
 pub record Ready (g : Gear) : Type 0 where
-  pub fit : fitb g ≡ true
+  pub fit : Fit g
   pub unstaged : g .colour .pending .mode ≡ None
   pub activates : automatic (g .colour) ≡ true
 
@@ -66,6 +66,6 @@ pub record NothingStaged (g : Gear) (ws : List Write) : Type 0 where
   pub scenes : All (Clean g) ws
 
 pub record Worded (g : Gear) (ws : List Write) : Type 0 where
-  pub fit : fitb g ≡ true
+  pub fit : Fit g
   pub nothing : NothingStaged g ws
   pub activates : automatic (g .colour) ≡ true

@@ -1,4 +1,4 @@
--- What a query changes, part by part; and the answers of the walk.
+-- What a query changes, part by part; and what it tells, from the parts.
 use Prim.Native.Nat.{ℕ, _/_, _%_}
 use mathlib.Core.Path.{_≡_, refl, sym, _∙_}
 use mathlib.Core.Bool.{Bool, true, false}
@@ -6,7 +6,7 @@ use lib.Dec.{eqb, leb}
 use native.Mathlib.Omega.{arith}
 use borrow.Author.Tests.{eqb-true, eqb-false, le-leb, lt-leb}
 use Rattle.query.specs.Heard.{begun, movedOn, stepped, walked, tellsLevel, reports, shown}
-use Rattle.query.specs.Reply.{isSettingQuery, isQuery, query, heardQuery, reported, reportFor}
+use Rattle.query.specs.Reply.{isSettingQuery, isQuery, query, heardQuery, reported, reportFor, seen, told}
 use Rattle.query.specs.Walk.{deviceType, nextAt, next, nextDeviceType, typeAnswer, answerAt, nextTypeAnswer}
 use Rattle.colour.specs.Report.{reportFrom, reportFromActual}
 use Rattle.gear.specs.declared.marks.Walk.{Walk}
@@ -86,15 +86,23 @@ query-walks g b =
     by-cases (eqb b 167) (λ t. rw (eqb-true b 167 t) (at-167 g))
     (λ t. by-cases (isQuery b) (λ u. simp (e, t, u)) (λ u. simp (e, t, u, no-query g b u))))
 
--- ---- the answers of the walk
+-- ---- the answers
 
-pub type-answers : (g : Gear) → deviceType g .answer ≡ typeAnswer (g .unit)
+type-answers : (g : Gear) → deviceType g .answer ≡ typeAnswer (g .unit)
 unfolding deviceType typeAnswer
 type-answers g =
     by-cases (eqb (g .unit .count) 0) (λ e. simp e)
     (λ e. by-cases (eqb (g .unit .count) 1) (λ t. simp (e, t)) (λ t. simp (e, t)))
 
-pub next-answers : (g : Gear) (w : Walk) → next g w .answer ≡ nextTypeAnswer (g .unit) w
+next-answers : (g : Gear) (w : Walk) → next g w .answer ≡ nextTypeAnswer (g .unit) w
 unfolding next nextAt nextTypeAnswer answerAt
 next-answers g Off = refl
 next-answers g (At n) = by-cases (leb (g .unit .count) n) (λ e. simp e) (λ e. simp e)
+
+pub query-tells : (g : Gear) (b : ℕ) → query g b .answer ≡ told (seen g) b
+unfolding query nextDeviceType told
+query-tells g b =
+    by-cases (eqb b 153) (λ e. simp (e, type-answers))
+    (λ e.
+    by-cases (eqb b 167) (λ t. simp (e, t, next-answers))
+    (λ t. by-cases (isQuery b) (λ u. simp (e, t, u)) (λ u. simp (e, t, u))))

@@ -5,26 +5,29 @@ use lib.Dec.{eqb}
 use Rattle.query.specs.Bits.{bit}
 use Rattle.colour.specs.declared.tint.Tint.{Tint}
 use Rattle.colour.specs.Tint.{byMode}
-use Rattle.gear.specs.declared.record.Gear.{Gear}
+use Rattle.gear.specs.declared.profile.Unit.{Unit}
+use Rattle.gear.specs.declared.record.Faults.{Faults}
+use Rattle.gear.specs.declared.record.Lamp.{Lamp}
 use Rattle.gear.specs.Profile.{isType}
+use Rattle.level.specs.declared.levels.Levels.{Levels}
 use Rattle.numbers.specs.Numbers.{both, pick}
 
 -- bit 5, thermal shut-down, of a type 6 gear
-unfoldable pub thermalShutDown : Gear → Bool
-thermalShutDown g = pick (bit (g .faults .failure) 32) (isType (g .unit) 6) false
+unfoldable pub thermalShutDown : Unit → Faults → Bool
+thermalShutDown u f = pick (bit (f .failure) 32) (isType u 6) false
 
 -- any of bits 0 to 4 of a type 6 gear
-unfoldable pub lampFailureFrom207 : Gear → Bool
-lampFailureFrom207 g = pick (eqb (g .faults .failure % 32) 0) false (isType (g .unit) 6)
+unfoldable pub lampFailureFrom207 : Unit → Faults → Bool
+lampFailureFrom207 u f = pick (eqb (f .failure % 32) 0) false (isType u 6)
 
 -- a level above 0, neither starting nor failing, and no thermal shut-down
-unfoldable pub lampOn : Gear → Bool
-lampOn g =
-    pick (eqb (g .levels .level) 0) false (pick (g .lamp .starting) false (pick (g .lamp .failure) false (pick (thermalShutDown g) false true)))
+unfoldable pub lampOn : Unit → Levels → Lamp → Faults → Bool
+lampOn u l lamp f =
+    pick (eqb (l .level) 0) false (pick (lamp .starting) false (pick (lamp .failure) false (pick (thermalShutDown u f) false true)))
 
 -- bit 5 or 6, thermal overload, of a type 6 gear
-unfoldable pub overheated : Gear → Bool
-overheated g = pick (bit (g .faults .failure) 32) (isType (g .unit) 6) (pick (bit (g .faults .failure) 64) (isType (g .unit) 6) false)
+unfoldable pub overheated : Unit → Faults → Bool
+overheated u f = pick (bit (f .failure) 32) (isType u 6) (pick (bit (f .failure) 64) (isType u 6) false)
 
 -- the six channel bits are a power of two
 unfoldable pub oneLinked : ℕ → Bool
@@ -38,5 +41,5 @@ oneLinked control =
 unfoldable pub showsLevel : Tint → Bool
 showsLevel a = byMode (a .mode) true true true (pick (eqb (a .control / 64) 2) true (oneLinked (a .control)))
 
-unfoldable pub actualLevel : Gear → ℕ
-actualLevel g = pick (overheated g) 255 (pick (showsLevel (g .colour .active)) (g .levels .level) 255)
+unfoldable pub actualLevel : Unit → Levels → Faults → Tint → ℕ
+actualLevel u l f active = pick (overheated u f) 255 (pick (showsLevel active) (l .level) 255)

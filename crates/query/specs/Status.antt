@@ -4,9 +4,13 @@ use mathlib.Core.Bool.{Bool, true, false}
 use lib.Bits.{bitOr}
 use Rattle.query.specs.Bits.{weight}
 use Rattle.query.specs.Lamp.{lampFailureFrom207, lampOn}
+use Rattle.gear.specs.declared.marks.Marks.{Marks}
 use Rattle.gear.specs.declared.profile.Short.{Short}
 use Rattle.gear.specs.declared.profile.Short.the-variants.{Missing, Address}
-use Rattle.gear.specs.declared.record.Gear.{Gear}
+use Rattle.gear.specs.declared.profile.Unit.{Unit}
+use Rattle.gear.specs.declared.record.Faults.{Faults}
+use Rattle.gear.specs.declared.record.Lamp.{Lamp}
+use Rattle.level.specs.declared.levels.Levels.{Levels}
 use Rattle.numbers.specs.Numbers.{pick}
 
 unfoldable pub missing : Short → Bool
@@ -14,15 +18,15 @@ missing Missing = true
 missing (Address a) = false
 
 -- the mark, or a part 207 fault
-unfoldable pub lampFailing : Gear → Bool
-lampFailing g = pick (g .lamp .failure) true (lampFailureFrom207 g)
+unfoldable pub lampFailing : Unit → Lamp → Faults → Bool
+lampFailing u lamp f = pick (lamp .failure) true (lampFailureFrom207 u f)
 
 -- the forced bits, and 1 lamp failure, 2 lamp on, 3 limit error, 5 reset state, 7 power cycle seen, 6 missing short address
-unfoldable pub statusByte : Gear → ℕ
-statusByte g =
+unfoldable pub statusByte : Unit → Levels → Marks → Lamp → Faults → ℕ
+statusByte u l m lamp f =
     bitOr
     (bitOr
-    (bitOr (bitOr (bitOr (g .faults .forced) (weight (lampFailing g) 2)) (weight (lampOn g) 4))
-    (bitOr (weight (g .levels .error) 8) (weight (g .marks .reset) 32)))
-    (weight (g .marks .cycled) 128))
-    (weight (missing (g .unit .short)) 64)
+    (bitOr (bitOr (bitOr (f .forced) (weight (lampFailing u lamp f) 2)) (weight (lampOn u l lamp f) 4))
+    (bitOr (weight (l .error) 8) (weight (m .reset) 32)))
+    (weight (m .cycled) 128))
+    (weight (missing (u .short)) 64)

@@ -3,57 +3,57 @@ use crate::bits::bit_5;
 use crate::bits::bit_6;
 use colour::tint::ColorMode;
 use colour::tint::Tint;
-use gear::record::Gear;
+use gear::profile::Unit;
+use gear::record::Faults;
+use gear::record::Lamp;
+use level::levels::Levels;
 ghost use mathlib.Core.Path.{_≡_};
 ghost use Rattle.query.specs.Lamp.{thermalShutDown, lampFailureFrom207, lampOn, overheated, oneLinked, showsLevel, actualLevel};
 
 // Part 207: a LED gear that shut down for heat.
-pub fn thermal_shut_down(gear: Gear) -> bool
-    ensures { λ r. ⌜ r ≡ thermalShutDown gear ⌝ }
+pub fn thermal_shut_down(unit: Unit, faults: Faults) -> bool
+    ensures { λ r. ⌜ r ≡ thermalShutDown unit faults ⌝ }
 {
-    let unit = gear.unit;
-    if bit_5(gear.faults.failure) {
+    if bit_5(faults.failure) {
         return unit.is_dt6();
     }
     false
 }
 
 // Part 207, 11.3.4.2: any of short circuit, open circuit, load decrease, load increase and current protector.
-pub fn lamp_failure_from_207(gear: Gear) -> bool
-    ensures { λ r. ⌜ r ≡ lampFailureFrom207 gear ⌝ }
+pub fn lamp_failure_from_207(unit: Unit, faults: Faults) -> bool
+    ensures { λ r. ⌜ r ≡ lampFailureFrom207 unit faults ⌝ }
 {
-    let unit = gear.unit;
-    if gear.faults.failure % 32 == 0 {
+    if faults.failure % 32 == 0 {
         return false;
     }
     unit.is_dt6()
 }
 
 // Part 102, 9.16.4.
-pub fn lamp_on(gear: Gear) -> bool
-    ensures { λ r. ⌜ r ≡ lampOn gear ⌝ }
+pub fn lamp_on(unit: Unit, levels: Levels, lamp: Lamp, faults: Faults) -> bool
+    ensures { λ r. ⌜ r ≡ lampOn unit levels lamp faults ⌝ }
 {
-    if gear.levels.level == 0 {
+    if levels.level == 0 {
         return false;
     }
-    if gear.lamp.starting {
+    if lamp.starting {
         return false;
     }
-    if gear.lamp.failure {
+    if lamp.failure {
         return false;
     }
-    if thermal_shut_down(gear) {
+    if thermal_shut_down(unit, faults) {
         return false;
     }
     true
 }
 
 // A LED gear that shut down or throttled for heat.
-fn overheated(gear: Gear) -> bool
-    ensures { λ r. ⌜ r ≡ overheated gear ⌝ }
+fn overheated(unit: Unit, faults: Faults) -> bool
+    ensures { λ r. ⌜ r ≡ overheated unit faults ⌝ }
 {
-    let unit = gear.unit;
-    let failure = gear.faults.failure;
+    let failure = faults.failure;
     if bit_5(failure) {
         return unit.is_dt6();
     }
@@ -100,15 +100,14 @@ fn shows_level(active: Tint) -> bool
 }
 
 // The level that the gear tells, or 255.
-pub fn actual_level_answer(gear: Gear) -> u8
-    ensures { λ r. ⌜ r ≡ actualLevel gear ⌝ }
+pub fn actual_level_answer(unit: Unit, levels: Levels, faults: Faults, active: Tint) -> u8
+    ensures { λ r. ⌜ r ≡ actualLevel unit levels faults active ⌝ }
 {
-    let active = gear.colour.active;
-    if overheated(gear) {
+    if overheated(unit, faults) {
         return 255;
     }
     if shows_level(active) {
-        return gear.levels.level;
+        return levels.level;
     }
     255
 }

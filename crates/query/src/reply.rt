@@ -2,6 +2,7 @@
 use crate::heard::reports;
 use crate::heard::shown;
 use crate::heard::walked;
+use crate::told::Seen;
 use crate::told::query_answer;
 use colour::record::Colour;
 use colour::report::load_report_from;
@@ -11,7 +12,7 @@ use gear::answer::refused;
 use gear::record::Gear;
 use gear::scene::colour_at;
 ghost use mathlib.Core.Path.{_≡_};
-ghost use Rattle.query.specs.Reply.{reported, query, gearQueryReply};
+ghost use Rattle.query.specs.Reply.{seen, reported, query, gearQueryReply};
 
 // Part 209, 11.3.2: a colour gear reports the colour of the level that it tells.
 fn reported(gear: Gear, byte: u8) -> Colour
@@ -30,6 +31,33 @@ fn reported(gear: Gear, byte: u8) -> Colour
     colour
 }
 
+fn seen(gear: Gear) -> Seen
+    ensures { λ r. ⌜ r ≡ seen gear ⌝ }
+{
+    let unit = gear.unit;
+    let levels = gear.levels;
+    let marks = gear.marks;
+    let fades = gear.fades;
+    let groups = gear.groups;
+    let scenes = gear.scenes;
+    let lamp = gear.lamp;
+    let faults = gear.faults;
+    let active = gear.colour.active;
+    Seen {
+        unit: unit,
+        levels: levels,
+        marks: marks,
+        on: gear.on.level,
+        failure: gear.failure.level,
+        fades: fades,
+        groups: groups,
+        scenes: scenes,
+        lamp: lamp,
+        faults: faults,
+        active: active,
+    }
+}
+
 fn query(gear: Gear, byte: u8) -> Outcome
     ensures { λ r. ⌜ r ≡ query gear byte ⌝ }
 {
@@ -39,7 +67,7 @@ fn query(gear: Gear, byte: u8) -> Outcome
     next.marks = walked(unit, marks, byte);
     next.colour = reported(gear, byte);
     Outcome {
-        answer: query_answer(gear, byte),
+        answer: query_answer(seen(gear), byte),
         gear: next,
     }
 }

@@ -2,8 +2,12 @@
 use crate::bits::weight;
 use crate::lamp::lamp_failure_from_207;
 use crate::lamp::lamp_on;
+use gear::marks::Marks;
 use gear::profile::Short;
-use gear::record::Gear;
+use gear::profile::Unit;
+use gear::record::Faults;
+use gear::record::Lamp;
+use level::levels::Levels;
 ghost use mathlib.Core.Path.{_≡_};
 ghost use Rattle.query.specs.Status.{missing, lampFailing, statusByte};
 
@@ -16,23 +20,23 @@ pub fn is_missing(short: Short) -> bool
     }
 }
 
-fn lamp_failing(gear: Gear) -> bool
-    ensures { λ r. ⌜ r ≡ lampFailing gear ⌝ }
+fn lamp_failing(unit: Unit, lamp: Lamp, faults: Faults) -> bool
+    ensures { λ r. ⌜ r ≡ lampFailing unit lamp faults ⌝ }
 {
-    if gear.lamp.failure {
+    if lamp.failure {
         return true;
     }
-    lamp_failure_from_207(gear)
+    lamp_failure_from_207(unit, faults)
 }
 
 // Bit 1 lamp failure, 2 lamp on, 3 limit error, 5 reset state, 6 missing short address, 7 power cycle seen; the forced bits
 // are set besides.
-pub fn status_byte(gear: Gear) -> u8
-    ensures { λ r. ⌜ r ≡ statusByte gear ⌝ }
+pub fn status_byte(unit: Unit, levels: Levels, marks: Marks, lamp: Lamp, faults: Faults) -> u8
+    ensures { λ r. ⌜ r ≡ statusByte unit levels marks lamp faults ⌝ }
 {
-    let unit = gear.unit;
     let short = unit.short;
-    let lamp = gear.faults.forced | weight(lamp_failing(gear), 2) | weight(lamp_on(gear), 4);
-    let limits = weight(gear.levels.error, 8) | weight(gear.marks.reset, 32);
-    lamp | limits | weight(gear.marks.cycled, 128) | weight(is_missing(short), 64)
+    let failing = faults.forced | weight(lamp_failing(unit, lamp, faults), 2);
+    let shines = failing | weight(lamp_on(unit, levels, lamp, faults), 4);
+    let limits = weight(levels.error, 8) | weight(marks.reset, 32);
+    shines | limits | weight(marks.cycled, 128) | weight(is_missing(short), 64)
 }

@@ -6,12 +6,34 @@ use crate::status::is_missing;
 use crate::status::status_byte;
 use crate::walk::next_type_answer;
 use crate::walk::type_answer;
+use colour::tint::Tint;
 use gear::answer::Answer;
 use gear::answer::Refusal;
-use gear::record::Gear;
+use gear::marks::Marks;
+use gear::profile::Unit;
+use gear::record::Fades;
+use gear::record::Faults;
+use gear::record::Lamp;
 use gear::scene::level_at;
+use level::levels::Levels;
 ghost use mathlib.Core.Path.{_≡_};
-ghost use Rattle.query.specs.Reply.{isStatusQuery, isSettingQuery, isQuery, yes, statusReply, packedFades, gearFailure, settingReply, identityReply, reply, query};
+ghost use Rattle.query.specs.Reply.{isStatusQuery, isSettingQuery, isQuery, yes, statusReply, packedFades, gearFailure, settingReply, identityReply, reply, told};
+
+// The parts of a record that queries tell of.
+pub struct Seen {
+    pub unit: Unit,
+    pub levels: Levels,
+    pub marks: Marks,
+    // The levels for power-on and for system failure.
+    pub on: u8,
+    pub failure: u8,
+    pub fades: Fades,
+    pub groups: [bool; 16],
+    pub scenes: [u8; 16],
+    pub lamp: Lamp,
+    pub faults: Faults,
+    pub active: Tint,
+}
 
 fn is_status_query(low: u8) -> bool
     ensures { λ r. ⌜ r ≡ isStatusQuery low ⌝ }
@@ -64,24 +86,24 @@ fn value(byte: u8) -> Answer
 }
 
 // Queries 144 to 159.
-fn status_reply(gear: Gear, low: u8) -> Answer
-    ensures { λ r. ⌜ r ≡ statusReply gear low ⌝ }
+fn status_reply(seen: Seen, low: u8) -> Answer
+    ensures { λ r. ⌜ r ≡ statusReply seen low ⌝ }
 {
     match low {
-        0 => value(status_byte(gear)),
+        0 => value(status_byte(seen.unit, seen.levels, seen.marks, seen.lamp, seen.faults)),
         1 => Answer::Value(255),
-        2 => yes(gear.lamp.failure),
-        3 => yes(lamp_on(gear)),
-        4 => yes(gear.levels.error),
-        5 => yes(gear.marks.reset),
+        2 => yes(seen.lamp.failure),
+        3 => yes(lamp_on(seen.unit, seen.levels, seen.lamp, seen.faults)),
+        4 => yes(seen.levels.error),
+        5 => yes(seen.marks.reset),
         6 => {
-            let unit = gear.unit;
+            let unit = seen.unit;
             let short = unit.short;
             yes(is_missing(short))
         }
         7 => Answer::Value(8),
-        10 => value(gear.unit.minimum),
-        11 => yes(gear.marks.cycled),
+        10 => value(seen.unit.minimum),
+        11 => yes(seen.marks.cycled),
         14 => Answer::Value(0),
         15 => Answer::Value(6),
         _ => Answer::Nothing,
@@ -96,42 +118,42 @@ fn packed_fades(time: u8, rate: u8) -> u8
 }
 
 // Bit 0 of the status.
-fn gear_failure(gear: Gear) -> bool
-    ensures { λ r. ⌜ r ≡ gearFailure gear ⌝ }
+fn gear_failure(seen: Seen) -> bool
+    ensures { λ r. ⌜ r ≡ gearFailure seen ⌝ }
 {
-    let status = status_byte(gear);
+    let status = status_byte(seen.unit, seen.levels, seen.marks, seen.lamp, seen.faults);
     status % 2 == 1
 }
 
 // Queries 160 to 170. No operating mode of this gear is a manufacturer's own, so 166 is never answered.
-fn setting_reply(gear: Gear, low: u8) -> Answer
-    ensures { λ r. ⌜ r ≡ settingReply gear low ⌝ }
+fn setting_reply(seen: Seen, low: u8) -> Answer
+    ensures { λ r. ⌜ r ≡ settingReply seen low ⌝ }
 {
     match low {
-        0 => value(actual_level_answer(gear)),
-        1 => value(gear.levels.max),
-        2 => value(gear.levels.min),
-        3 => value(gear.on.level),
-        4 => value(gear.failure.level),
-        5 => value(packed_fades(gear.fades.time, gear.fades.rate)),
-        8 => value(gear.fades.extended),
-        10 => yes(gear_failure(gear)),
+        0 => value(actual_level_answer(seen.unit, seen.levels, seen.faults, seen.active)),
+        1 => value(seen.levels.max),
+        2 => value(seen.levels.min),
+        3 => value(seen.on),
+        4 => value(seen.failure),
+        5 => value(packed_fades(seen.fades.time, seen.fades.rate)),
+        8 => value(seen.fades.extended),
+        10 => yes(gear_failure(seen)),
         _ => Answer::Nothing,
     }
 }
 
 // Queries 192 to 196.
-fn identity_reply(gear: Gear, low: u8) -> Answer
-    ensures { λ r. ⌜ r ≡ identityReply gear low ⌝ }
+fn identity_reply(seen: Seen, low: u8) -> Answer
+    ensures { λ r. ⌜ r ≡ identityReply seen low ⌝ }
 {
-    let random = gear.unit.random;
+    let random = seen.unit.random;
     match low {
         0 => {
-            let groups = gear.groups;
+            let groups = seen.groups;
             value(eight(groups, false))
         }
         1 => {
-            let groups = gear.groups;
+            let groups = seen.groups;
             value(eight(groups, true))
         }
         2 => Answer::Value((random / 65536 % 256) as u16),
@@ -141,39 +163,38 @@ fn identity_reply(gear: Gear, low: u8) -> Answer
     }
 }
 
-fn reply(gear: Gear, byte: u8) -> Answer
-    ensures { λ r. ⌜ r ≡ reply gear byte ⌝ }
+fn reply(seen: Seen, byte: u8) -> Answer
+    ensures { λ r. ⌜ r ≡ reply seen byte ⌝ }
 {
     let block = byte / 16;
     let low = byte % 16;
     match block {
-        9 => status_reply(gear, low),
-        10 => setting_reply(gear, low),
+        9 => status_reply(seen, low),
+        10 => setting_reply(seen, low),
         11 => {
-            let scenes = gear.scenes;
+            let scenes = seen.scenes;
             value(level_at(scenes, low))
         }
-        12 => identity_reply(gear, low),
+        12 => identity_reply(seen, low),
         _ => Answer::Nothing,
     }
 }
 
-// The answer on a fit record.
-pub fn query_answer(gear: Gear, byte: u8) -> Answer
-    ensures { λ r. ⌜ r ≡ query gear byte .answer ⌝ }
+pub fn query_answer(seen: Seen, byte: u8) -> Answer
+    ensures { λ r. ⌜ r ≡ told seen byte ⌝ }
 {
     if byte == 153 {
-        let unit = gear.unit;
+        let unit = seen.unit;
         return type_answer(unit);
     }
     if byte == 167 {
-        let unit = gear.unit;
-        let marks = gear.marks;
+        let unit = seen.unit;
+        let marks = seen.marks;
         let walk = marks.walk;
         return next_type_answer(unit, walk);
     }
     if is_query(byte) {
-        return reply(gear, byte);
+        return reply(seen, byte);
     }
     Answer::Refused(Refusal::Byte)
 }

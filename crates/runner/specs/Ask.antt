@@ -6,15 +6,14 @@ use Rattle.file.specs.declared.Verdict.the-variants.{Good, Bad}
 use Rattle.file.specs.File.{checked}
 use Rattle.runner.specs.Run.{lastOf}
 use Rattle.step.specs.Step.{step}
-use Rattle.gear.specs.declared.answer.Answer.{Answer}
-use Rattle.gear.specs.declared.answer.Answer.the-variants.{Refused}
 use Rattle.gear.specs.declared.answer.Outcome.{Outcome}
-use Rattle.gear.specs.declared.answer.Refusal.the-variants.{File}
+use Rattle.runner.specs.declared.ask.Asked.{Asked}
+use Rattle.runner.specs.declared.ask.Asked.the-variants.{Told, Malformed}
 
--- refusal 5 where the file is malformed
-abbrev pub askedAs : List ℕ → ℕ → ℕ → ℕ → ℕ → Verdict → Answer
-askedAs s kind a b c Good = step (lastOf s) kind a b c .answer
-askedAs s kind a b c (Bad offset) = Refused File
+-- a malformed file is refused with its offset, and nothing is run
+abbrev pub askedAs : List ℕ → ℕ → ℕ → ℕ → ℕ → Verdict → Asked
+askedAs s kind a b c Good = Told (step (lastOf s) kind a b c .answer)
+askedAs s kind a b c (Bad offset) = Malformed offset
 
-unfoldable pub asked : List ℕ → ℕ → ℕ → ℕ → ℕ → Answer
+unfoldable pub asked : List ℕ → ℕ → ℕ → ℕ → ℕ → Asked
 asked s kind a b c = askedAs s kind a b c (checked s)

@@ -5,7 +5,6 @@ use file::check;
 use file::profile_of;
 use file::steps;
 use gear::answer::Answer;
-use gear::answer::Refusal;
 use gear::record::Gear;
 ghost use mathlib.Core.Path.{_≡_};
 ghost use Rattle.runner.specs.Ask.{asked};
@@ -13,6 +12,12 @@ ghost use Rattle.file.specs.declared.Verdict.the-variants.{Good};
 ghost use Rattle.file.specs.File.{checked};
 ghost use Rattle.runner.specs.Run.{lastOf};
 ghost use Rattle.step.specs.Step.{step};
+
+// What the step answers; the offset of a malformed file, which is refusal 5.
+pub enum Asked {
+    Told(Answer),
+    Malformed(usize),
+}
 
 // One more step on the record that the steps of a well-formed file leave. No lines are wanted, so none of the byte is written.
 fn answer_after(file: &[u8], kind: u8, a: u8, b: u8, c: u8) -> Answer
@@ -30,12 +35,13 @@ fn answer_after(file: &[u8], kind: u8, a: u8, b: u8, c: u8) -> Answer
     after.answer
 }
 
-pub fn ask(file: &[u8], kind: u8, a: u8, b: u8, c: u8) -> Answer
+// Where the file is malformed, nothing is run.
+pub fn ask(file: &[u8], kind: u8, a: u8, b: u8, c: u8) -> Asked
     ensures { λ r. ⌜ r ≡ asked (now (file .entry)) kind a b c ⌝ }
 {
     let verdict = check(file);
     match verdict {
-        Verdict::Bad(_) => Answer::Refused(Refusal::File),
-        Verdict::Good => answer_after(file, kind, a, b, c),
+        Verdict::Bad(offset) => Asked::Malformed(offset),
+        Verdict::Good => Asked::Told(answer_after(file, kind, a, b, c)),
     }
 }

@@ -32,6 +32,7 @@ use level::arc::apply_arc;
 use query::heard::reports;
 use query::heard::shown;
 use query::heard::walked;
+use query::told::Seen;
 use query::told::query_answer;
 use step::pair;
 use step::temperature;
@@ -42,6 +43,7 @@ ghost use Prim.Native.Nat.{_*_, _≤_};
 ghost use lib.ListN.{length};
 ghost use Rattle.gear.specs.Record.{fitb};
 ghost use Rattle.numbers.specs.Numbers.{pick};
+ghost use Rattle.query.specs.Reply.{query};
 ghost use Rattle.runner.specs.Line.{Wrote};
 ghost use Rattle.runner.specs.Run.{answerAfter, stateAfter, textAfter};
 ghost use Rattle.step.specs.Step.{commandAt};
@@ -61,6 +63,35 @@ fn command_at(kind: u8, byte: u8) -> StandardCommand
         return StandardCommand::Arc(ArcCommand::DirectArcPower(byte));
     }
     command_of(byte)
+}
+
+// What a query answers on a fit record.
+fn told(gear: Gear, byte: u8) -> Answer
+    ensures { λ r. ⌜ r ≡ query gear byte .answer ⌝ }
+{
+    let unit = gear.unit;
+    let levels = gear.levels;
+    let marks = gear.marks;
+    let fades = gear.fades;
+    let groups = gear.groups;
+    let scenes = gear.scenes;
+    let lamp = gear.lamp;
+    let faults = gear.faults;
+    let active = gear.colour.active;
+    let seen = Seen {
+        unit: unit,
+        levels: levels,
+        marks: marks,
+        on: gear.on.level,
+        failure: gear.failure.level,
+        fades: fades,
+        groups: groups,
+        scenes: scenes,
+        lamp: lamp,
+        faults: faults,
+        active: active,
+    };
+    query_answer(seen, byte)
 }
 
 // Every step in turn, with its line where `lines` are wanted. It is a table, an arm for each thing that a step may be: the record lies
@@ -158,14 +189,21 @@ pub(crate) fn follow(
                             ConfigCommand::RemoveFromGroup(_) => state.groups[slot] = false,
                         }
                     }
-                    StandardCommand::Reset => state = state.reset_gear(),
+                    StandardCommand::Reset => {
+                        state = Gear::reset_gear(
+                            state.unit,
+                            state.enabled,
+                            state.faults,
+                            state.colour,
+                        );
+                    },
                     StandardCommand::IdentifyDevice => state.marks = state.marks.identified(),
                     StandardCommand::EnableWriteMemory => state.marks = state.marks.enabled(),
                     StandardCommand::Unknown => answer = Answer::Refused(Refusal::Byte),
                 }
             }
             2 => {
-                answer = query_answer(state, a);
+                answer = told(state, a);
                 state.marks = walked(state.unit, state.marks, a);
                 if reports(state.unit, a) {
                     let setting = shown(

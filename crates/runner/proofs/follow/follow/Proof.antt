@@ -214,7 +214,7 @@ met c =
     meets (at-write g f a b d (w .1 .taken) (w .2 .ensures) command)
     (w .10 ∙ ap₂ (λ (m : Marks) (x : List Bool). withGroups (withMarks g m) x) (w .7 .ensures) (stored-at is low (g .groups) false)) (w .11))
     (⊎-elim
-    (λ w. meets (at-write g f a b d (w .1 .taken) (w .2 .ensures) (w .4 .given .1)) (w .6 ∙ w .5 .ensures) (w .7))
+    (λ w. meets (at-write g f a b d (w .1 .taken) (w .2 .ensures) (w .4 .given .1)) (w .9 ∙ w .8 .ensures) (w .10))
     (⊎-elim
     (λ w.
     meets (at-write g f a b d (w .1 .taken) (w .2 .ensures) (w .4 .given .1)) (w .7 ∙ ap (withMarks g) (w .6 .ensures)) (w .8))
@@ -272,8 +272,8 @@ shared-slice-read-c c = omega (arith, c .before)
 cast-slot : tie.Need-cast-slot Inv-loop μ-loop
 cast-slot c = search needs
 
-query-answer-requires : tie.Need-query-answer-requires Inv-loop μ-loop
-query-answer-requires c κs = search needs
+told-requires : tie.Need-told-requires Inv-loop μ-loop
+told-requires c κs = search needs
 
 walked-requires : tie.Need-walked-requires Inv-loop μ-loop
 walked-requires c κs = search needs
@@ -583,7 +583,7 @@ follow-spec =
     add-c
     shared-slice-read-c
     cast-slot
-    query-answer-requires
+    told-requires
     walked-requires
     reports-requires
     mul-shown
