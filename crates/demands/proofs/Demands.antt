@@ -1,5 +1,5 @@
 -- The statements of specs/Demands, proved.
-use mathlib.Core.Path.{_≡_, subst, sym, fun-ext}
+use mathlib.Core.Path.{subst, sym, fun-ext}
 use Rattle.demands.specs.Calls.{Behaviour, Call, perform}
 use Rattle.demands.specs.Demands.{Demanded, Demands}
 use Rattle.demands.specs.Promises.{Promised}

@@ -5,7 +5,7 @@ use mathlib.Core.Bool.{true}
 use mathlib.Core.List.{List, [], _∷_}
 use lib.Dec.{eqb}
 use native.Mathlib.Omega.{arith}
-use Rattle.demands.specs.Calls.{Behaviour, Call, perform}
+use Rattle.demands.specs.Calls.{Behaviour, perform}
 use Rattle.demands.specs.Calls.Call.{ArcPower}
 use Rattle.demands.specs.Impostors.{Caught, zeroed}
 use Rattle.demands.specs.Readings.{AllHold, Reading, number}
@@ -15,7 +15,7 @@ use Rattle.gear.proofs.Built.{fresh-fit}
 use Rattle.gear.specs.declared.answer.Answer.{Answer}
 use Rattle.gear.specs.declared.answer.Answer.the-variants.{Done, Value, Nothing, Refused}
 use Rattle.gear.specs.Profile.{accepted, shortFit, unitFit}
-use Rattle.gear.specs.Record.{fitb, freshGear, newGear}
+use Rattle.gear.specs.Record.{freshGear, newGear}
 use Rattle.numbers.proofs.Logic.{by-cases, no-false}
 
 -- ## A fresh LED gear
