@@ -14,9 +14,10 @@ use dali2rust_platform::dali::TransferOutcome;
 /// Why a call cannot stand in a list.
 pub type Malformed = String;
 
-/// Performs the call and judges the record after it.
+/// Performs the call and judges the record after it: it is fit, and tells the last offset of bank 1 (document 02, 6).
 pub fn step(gear: &mut Gear, call: &Call) -> Result<Answer, Malformed> {
     let answer = perform(gear, call)?;
+    assert_eq!(gear.memory_location(1, 0), Some(16), "offset 0 of bank 1 does not read");
     match unfit(gear) {
         None => Ok(answer),
         Some(why) if is_placing(call.kind()) => Err(format!("it places an unfit record: {why}")),

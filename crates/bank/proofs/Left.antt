@@ -2,15 +2,11 @@
 use Prim.Native.Nat.{ℕ}
 use mathlib.Core.Path.{_≡_, refl}
 use mathlib.Core.Bool.{Bool, true, false}
-use mathlib.Core.List.{List}
-use lib.Dec.{eqb, leb}
-use lib.ListN.{getD}
 use Rattle.bank.specs.declared.build.Banks.{Banks}
 use Rattle.bank.specs.declared.memory.Location.the-variants.{Byte, Nothing}
-use Rattle.bank.specs.Memory.{profileLocation, lacksIndicatorByte, memoryLocation, profileWritable, writable, stored, writeMemoryLocation}
+use Rattle.bank.specs.Memory.{profileLocation, lacksIndicatorByte, memoryLocation, writable, stored, writeMemoryLocation}
 use Rattle.bank.specs.Setters.{setBank1LockByte, setBank1Location, setLogicalGearUnit, setBank0LastOffset, clearIdentificationNumber}
 use Rattle.numbers.proofs.Logic.{by-cases}
-use Rattle.numbers.specs.Numbers.{both, pick}
 
 -- ---- the last offset of bank 1
 
@@ -19,13 +15,6 @@ pub profile-last : (b : Banks) (bare : Bool) → memoryLocation b bare 1 0 ≡ B
 unfolding profileLocation lacksIndicatorByte memoryLocation
 profile-last b true = refl
 profile-last b false = refl
-
--- so what can be written lies within 2..16, and the fallback for a last offset that cannot be read is never used
-pub profile-writable-within :
-    (bytes : List ℕ) (offset : ℕ) →
-    profileWritable bytes offset ≡ both (both (leb 2 offset) (leb offset 16)) (pick (eqb offset 2) true (eqb (getD bytes 2 0) 0x55))
-unfolding profileLocation profileWritable
-profile-writable-within bytes offset = refl
 
 -- ---- writes
 

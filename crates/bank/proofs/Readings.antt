@@ -7,7 +7,7 @@ use mathlib.Core.List.{[], _∷_}
 use Rattle.bank.specs.declared.build.Banks.{Banks}
 use Rattle.bank.specs.declared.memory.Location.the-variants.{Byte, Nothing}
 use Rattle.bank.specs.Build.{buildBank0, buildBank1, build}
-use Rattle.bank.specs.Memory.{identityLocation, profileLocation, lacksIndicatorByte, memoryLocation, profileWritable, writable, storeProfile, stored, writeMemoryLocation}
+use Rattle.bank.specs.Memory.{identityLocation, lacksIndicatorByte, memoryLocation, profileWritable, writable, storeProfile, stored, writeMemoryLocation}
 use Rattle.bank.specs.Setters.{setBank1Location, setBank0LastOffset}
 use Rattle.bank.proofs.Left.{profile-last}
 
@@ -32,7 +32,7 @@ pub p9 :
     (writeMemoryLocation (build random) false 1 2 0 .answer ≡ Byte 0) ×
     (writeMemoryLocation (locked random) unstored 1 3 value ≡ record { answer = Nothing; banks = locked random }) ×
     (writeMemoryLocation (locked random) unstored 1 2 value .answer ≡ Byte value)
-unfolding buildBank1 build profileLocation profileWritable writable storeProfile stored writeMemoryLocation
+unfolding buildBank1 build profileWritable writable storeProfile stored writeMemoryLocation
 p9 random value unstored = (refl, refl, refl)
 
 -- bank 0 stores two bytes more than it shows; a last offset set beyond them shows these, and no more

@@ -21,7 +21,7 @@ pub record Within (bank offset : ℕ) : Type 0 where
   pub high : offset ≤ 16
 
 pub writable-within : (b : Banks) (bank offset : ℕ) → writable b bank offset ≡ true → Within bank offset
-unfolding profileLocation profileWritable writable
+unfolding profileWritable writable
 writable-within b bank offset w =
     let p = both-right (eqb bank 1) (profileWritable (b .profile) offset) w in
     let o = both-left (both (leb 2 offset) (leb offset 16)) (pick (eqb offset 2) true (eqb (getD (b .profile) 2 0) 0x55)) p in

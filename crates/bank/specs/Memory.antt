@@ -15,19 +15,19 @@ abbrev pub isByte : Location → Bool
 isByte (Byte b) = true
 isByte Nothing = false
 
-abbrev pub byteOr : Location → ℕ → ℕ
-byteOr (Byte b) fallback = b
-byteOr Nothing fallback = fallback
-
 -- bank 0: nothing beyond the last offset, which offset 0 holds, nothing at offset 1, nothing beyond the 29 bytes that there are
 unfoldable pub identityLocation : List ℕ → ℕ → Location
 identityLocation bytes offset =
     pick (ltb (getD bytes 0 0) offset) Nothing
     (pick (eqb offset 1) Nothing (pick (leb 29 offset) Nothing (Byte (getD bytes offset 0))))
 
--- bank 1: offset 0 reads 16, whatever is stored there; nothing beyond the 17 bytes that there are
+-- the last offset of bank 1
+abbrev pub profileLast : ℕ
+profileLast = 16
+
+-- bank 1: offset 0 reads as the last offset, whatever is stored there; nothing beyond the 17 bytes that there are
 unfoldable pub profileLocation : List ℕ → ℕ → Location
-profileLocation bytes offset = pick (eqb offset 0) (Byte 16) (pick (leb 17 offset) Nothing (Byte (getD bytes offset 0)))
+profileLocation bytes offset = pick (eqb offset 0) (Byte profileLast) (pick (leb 17 offset) Nothing (Byte (getD bytes offset 0)))
 
 -- offset 1 of a bank other than 0, on a gear without indicator bytes
 unfoldable pub lacksIndicatorByte : Bool → ℕ → ℕ → Bool
@@ -48,11 +48,10 @@ unfoldable pub advancesDtr0Past : Banks → Bool → Bool → ℕ → ℕ → Bo
 advancesDtr0Past b bare holds bank offset =
     both (implementsBank bank) (pick holds (isByte (memoryLocation b bare bank offset)) true)
 
--- from the lock byte, at offset 2, to the last offset; beyond the lock byte only where it holds 0x55.
--- A last offset that could not be read would count as 0
+-- from the lock byte, at offset 2, to the last offset; beyond the lock byte only where it holds 0x55
 unfoldable pub profileWritable : List ℕ → ℕ → Bool
 profileWritable bytes offset =
-    both (both (leb 2 offset) (leb offset (byteOr (profileLocation bytes 0) 0)))
+    both (both (leb 2 offset) (leb offset profileLast))
     (pick (eqb offset 2) true (eqb (getD bytes 2 0) 0x55))
 
 -- nothing but bank 1 can be written

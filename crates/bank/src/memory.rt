@@ -1,7 +1,7 @@
 // Reading and writing memory locations (part 102, 9.10).
 use crate::build::Banks;
 ghost use mathlib.Core.Path.{_≡_};
-ghost use Rattle.bank.specs.Memory.{isByte, byteOr, identityLocation, profileLocation, lacksIndicatorByte, memoryLocation, implementsBank, advancesDtr0Past, profileWritable, writable, storeProfile, stored, writeMemoryLocation};
+ghost use Rattle.bank.specs.Memory.{isByte, identityLocation, profileLocation, lacksIndicatorByte, memoryLocation, implementsBank, advancesDtr0Past, profileWritable, writable, storeProfile, stored, writeMemoryLocation};
 
 pub const MEMORY_BANK_IDENTITY: u8 = 0;
 
@@ -12,7 +12,7 @@ const IDENTITY_LEN: u8 = 29;
 
 const PROFILE_LEN: u8 = 17;
 
-// The last offset of bank 1, as its offset 0 answers.
+// The last offset of bank 1: what its offset 0 answers, and where writing ends.
 const PROFILE_LAST: u8 = 16;
 
 // Reserved in bank 0, and the indicator byte of any other bank (part 102, tables 8 and 9).
@@ -42,15 +42,6 @@ fn is_byte(found: Location) -> bool
     match found {
         Location::Byte(_) => true,
         Location::Nothing => false,
-    }
-}
-
-fn byte_or(found: Location, fallback: u8) -> u8
-    ensures { λ r. ⌜ r ≡ byteOr found fallback ⌝ }
-{
-    match found {
-        Location::Byte(byte) => byte,
-        Location::Nothing => fallback,
     }
 }
 
@@ -139,11 +130,10 @@ pub fn advances_dtr0_past(banks: Banks, bare: bool, holds: bool, bank: u8, offse
 fn profile_writable(profile: [u8; 17], offset: u8) -> bool
     ensures { λ r. ⌜ r ≡ profileWritable profile offset ⌝ }
 {
-    let last = byte_or(profile_location(profile, 0), 0);
     if offset < LOCK_BYTE {
         return false;
     }
-    if last < offset {
+    if PROFILE_LAST < offset {
         return false;
     }
     if offset == LOCK_BYTE {

@@ -2,6 +2,7 @@
 use mathlib.Core.Path.{subst, sym, fun-ext}
 use Rattle.demands.specs.Calls.{Behaviour, Call, perform}
 use Rattle.demands.specs.Demands.{Demanded, Demands}
+use Rattle.demands.specs.LastOffset.{LastOffset}
 use Rattle.demands.specs.Promises.{Promised}
 use Rattle.demands.proofs.Blind.{keeps-blind}
 use Rattle.demands.proofs.Exactly.{exactly}
@@ -10,6 +11,7 @@ use Rattle.demands.proofs.Given.{refusals}
 use Rattle.demands.proofs.Host.{host}
 use Rattle.demands.proofs.Impostors.{caught}
 use Rattle.demands.proofs.Kept.{keeps-fit, keeps-bounds}
+use Rattle.demands.proofs.LastOffset.{bank-reads, last-offset}
 use Rattle.demands.proofs.PowerCycle.{power-cycle-breaks}
 use Rattle.demands.proofs.Promises.{promised-rule, rule-promised}
 use Rattle.demands.proofs.Readings.{readings}
@@ -30,10 +32,16 @@ rules-demanded =
       readings = readings;
     }
 
--- functions that meet their promises give what the rules give, on every call and record
+-- functions that meet their promises give what the rules give, on every call and record; so what is true of the rules is true of them
+by-promise : (Claim : Behaviour → Type 0) → Claim perform → (f : Behaviour) → ((c : Call) (g : Gear) → Promised c g (f c g)) → Claim f
+by-promise Claim true-of-rules f promised =
+    subst Claim (sym (fun-ext (λ c. fun-ext (λ g. promised-rule c g (f c g) (promised c g))))) true-of-rules
+
 pub promised-demanded : (f : Behaviour) → ((c : Call) (g : Gear) → Promised c g (f c g)) → Demanded f
-promised-demanded f promised =
-    subst Demanded (sym (fun-ext (λ c. fun-ext (λ g. promised-rule c g (f c g) (promised c g))))) rules-demanded
+promised-demanded = by-promise Demanded rules-demanded
+
+pub promised-last-offset : (f : Behaviour) → ((c : Call) (g : Gear) → Promised c g (f c g)) → LastOffset f
+promised-last-offset = by-promise LastOffset last-offset
 
 pub demands : Demands
 demands =
@@ -48,6 +56,7 @@ demands =
             step-exactly = step-exactly;
             sessions = sessions;
             impostors = caught;
+            last-offset = last-offset;
           };
       by-the-promises =
           record {
@@ -57,5 +66,7 @@ demands =
             step-exactly = λ g kind a b c o promise. rw promise (step-exactly g kind a b c);
             runs = runs;
             host = host;
+            last-offset = promised-last-offset;
+            bank-reads = bank-reads;
           };
     }

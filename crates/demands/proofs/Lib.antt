@@ -10,6 +10,7 @@ pub mod Given
 pub mod Host
 pub mod Impostors
 pub mod Kept
+pub mod LastOffset
 pub mod Named
 pub mod Outcome
 pub mod OutcomesBank

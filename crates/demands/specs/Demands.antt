@@ -11,6 +11,7 @@ use Rattle.demands.specs.Given.{Refusals}
 use Rattle.demands.specs.Host.{Host}
 use Rattle.demands.specs.Impostors.{Caught}
 use Rattle.demands.specs.Kept.{KeepsFit, KeepsBounds, PowerCycleBreaks}
+use Rattle.demands.specs.LastOffset.{BankReads, LastOffset}
 use Rattle.demands.specs.Promises.{Promised, PromisedNew, PromisedStep}
 use Rattle.demands.specs.Refusals.{Judged, RefusesExactly}
 use Rattle.demands.specs.Runs.{Runs}
@@ -53,6 +54,8 @@ pub record ByTheRules : Type 0 where
   pub sessions : Sessions
   -- the impostors of document 01 that take a record; the fifth is a runner, among the sessions
   pub impostors : Caught
+  -- request 6 of document 02
+  pub last-offset : LastOffset perform
 
 -- The Rattle functions, by their own promises alone
 pub record ByThePromises : Type 1 where
@@ -65,6 +68,9 @@ pub record ByThePromises : Type 1 where
   -- every function that takes a session file, and what a host is told by its library
   pub runs : Runs
   pub host : Host
+  -- request 6 of document 02; and of the read of the bank library
+  pub last-offset : (f : Behaviour) → ((c : Call) (g : Gear) → Promised c g (f c g)) → LastOffset f
+  pub bank-reads : BankReads
 
 pub record Demands : Type 1 where
   pub by-the-rules : ByTheRules

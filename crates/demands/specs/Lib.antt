@@ -7,6 +7,7 @@ pub mod Given
 pub mod Host
 pub mod Impostors
 pub mod Kept
+pub mod LastOffset
 pub mod Outcome
 pub mod Promises
 pub mod Readings

@@ -10,6 +10,8 @@ const BANKS: [&str; 5] = ["bank 0", "bank 1", "bank 2", "bank 255", "other banks
 const LOCKS: [&str; 2] = ["lock open", "lock closed"];
 const OTHER_BANKS: usize = 4;
 const LAST_OFFSETS: [u8; 9] = [0, 1, 25, 26, 27, 28, 29, 254, 255];
+/// What stands at offset 0 of bank 1, which every read of it tells as 16.
+const HIDDEN: [&str; 3] = ["16", "less", "more"];
 
 pub struct Memory {
     reads: Grid,
@@ -19,10 +21,19 @@ pub struct Memory {
     locations: Grid,
     last_offsets: Grid,
     locks: Grid,
+    hidden: Grid,
 }
 
 fn bank_index(bank: u8) -> usize {
     [0, 1, 2, 255].iter().position(|at| *at == bank).unwrap_or(OTHER_BANKS)
+}
+
+fn hidden_index(gear: &Gear) -> usize {
+    match gear.bank1()[0] {
+        16 => 0,
+        0..=15 => 1,
+        17.. => 2,
+    }
 }
 
 impl Memory {
@@ -45,6 +56,7 @@ impl Memory {
             locations: Grid::new("set_bank1_location", [bytes()]),
             last_offsets: Grid::new("set_bank0_last_offset", [names(&LAST_OFFSETS)]),
             locks: Grid::new("set_bank1_lock_byte", [names(&["0x54", "0x55", "0x56"])]),
+            hidden: Grid::new("offset 0 of bank 1", [names(&HIDDEN), names(&["read", "16 written", "17 written"])]),
         }
     }
 }
@@ -70,10 +82,15 @@ impl Watch for Memory {
             SET_LOCK => hit_if_known(&mut self.locks, &[0x54, 0x55, 0x56], first),
             _ => {}
         }
+        match (call.kind(), first, offset) {
+            (MEMORY_READ, 1, 0) => self.hidden.hit(&[hidden_index(gear), 0]),
+            (MEMORY_WRITE, 1, 16 | 17) => self.hidden.hit(&[hidden_index(gear), offset - 15]),
+            _ => {}
+        }
     }
 
     fn grids(&self) -> Vec<&Grid> {
-        let facts = [&self.advances, &self.implements, &self.locations, &self.last_offsets, &self.locks];
+        let facts = [&self.advances, &self.implements, &self.locations, &self.last_offsets, &self.locks, &self.hidden];
         [&self.reads, &self.writes].into_iter().chain(facts).collect()
     }
 }

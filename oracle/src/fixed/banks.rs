@@ -22,6 +22,7 @@ pub fn record(r: &mut Recorder) {
     locks(r);
     faulty_writes(r);
     setters(r);
+    last_offset(r);
     placed(r);
 }
 
@@ -78,6 +79,16 @@ fn setters(r: &mut Recorder) {
     r.call(plain(kinds::CLEAR_IDENTIFICATION));
     r.calls((10..=19).map(|offset| memory_read(0, offset)));
     r.calls([write(32, 0), memory_read(0, 11), memory_read(0, 0), memory_read(1, LOCK)]);
+}
+
+/// Whatever is set at offset 0 of bank 1, it reads 16, and writing ends there.
+fn last_offset(r: &mut Recorder) {
+    r.call(Profile { flags: FLAG_HOLDS_DTR0 | FLAG_NO_INDICATOR, ..everything() }.call());
+    for set in [0, 1, 2, 15, 16, 17, 255] {
+        r.calls([set_bank1(0, set), memory_read(1, 0), advances(1, 0)]);
+        r.calls([memory_write(1, 0, set ^ 1), memory_read(1, 0)]);
+        r.calls([LOCK, 3, 16, 17].map(|offset| memory_write(1, offset, 0x55)));
+    }
 }
 
 /// Bank bytes that no call can set, and that no other answer may depend on.
