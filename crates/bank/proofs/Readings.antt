@@ -8,8 +8,7 @@ use Rattle.bank.specs.declared.build.Banks.{Banks}
 use Rattle.bank.specs.declared.memory.Location.the-variants.{Byte, Nothing}
 use Rattle.bank.specs.Build.{buildBank0, buildBank1, build}
 use Rattle.bank.specs.Memory.{identityLocation, lacksIndicatorByte, memoryLocation, profileWritable, writable, storeProfile, stored, writeMemoryLocation}
-use Rattle.bank.specs.Setters.{setBank1Location, setBank0LastOffset}
-use Rattle.bank.proofs.Left.{profile-last}
+use Rattle.bank.specs.Setters.{setBank0LastOffset}
 
 -- P8: bank 0 ends at 26, its offset 1 is reserved, the last bank is 1, and 27 lies beyond
 pub p8 :
@@ -44,10 +43,6 @@ pub beyond :
 unfolding buildBank0 build identityLocation lacksIndicatorByte memoryLocation setBank0LastOffset
 beyond random true = (refl, refl, refl)
 beyond random false = (refl, refl, refl)
-
--- a byte set at offset 0 of bank 1 is shown by no read of it
-pub hidden : (b : Banks) (bare : Bool) (value : ℕ) → memoryLocation (setBank1Location b 0 value) bare 1 0 ≡ Byte 16
-hidden b bare value = profile-last (setBank1Location b 0 value) bare
 
 -- what the largest number gives: the GTIN does not carry, and the identification number carries past 32 bits
 pub carries :
