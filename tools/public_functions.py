@@ -34,13 +34,13 @@ def below(crate, file, folder, path):
         yield from below(crate, folder / f"{module}.rt", folder / module, path + [module])
 
 
-def all_functions():
-    for library in sorted(CRATES.glob("*/src/lib.rt")):
+def all_functions(crates=CRATES):
+    for library in sorted(crates.glob("*/src/lib.rt")):
         yield from below(library.parent.parent.name, library, library.parent, [])
 
 
 # a record, and what holds one
-RECORD = re.compile(r"\b(Gear|Outcome)\b")
+RECORD = "Gear|Outcome"
 
 # the public functions that take a record and are no calls, with the reason
 NO_CALLS = {
@@ -55,10 +55,14 @@ def full_name(function):
     return "::".join([function.crate] + function.path)
 
 
-def takes_record(function):
+def takes(function, types):
     """As a parameter, or as the value that a method is of."""
     own = function.path[-2:-1] if re.search(r"\bself\b", " ".join(function.params)) else []
-    return any(RECORD.search(text) for text in [*function.params, *own])
+    return any(re.search(rf"\b({types})\b", text) for text in [*function.params, *own])
+
+
+def takes_record(function):
+    return takes(function, RECORD)
 
 
 def is_call(function):

@@ -1,7 +1,6 @@
 // Colour calls: those of the colour library, under the fit test.
 use colour::activation::activate_pending_color as activate;
 use colour::activation::automatic_activation as automatic;
-use colour::record::Colour;
 use colour::setting::ColourSetting;
 use colour::staging::copy_report_to_temporary as copy;
 use colour::staging::load_temporaries_from as load;
@@ -23,69 +22,87 @@ use gear::answer::value_answer;
 use gear::record::Gear;
 use gear::serve::tell;
 ghost use mathlib.Core.Path.{_≡_};
-ghost use Rattle.calls.specs.Colours.{recoloured, tcStepCall, xyStepCall, storeTcLimitCall, stageCall, activateCall, copyReportCall, setFeaturesCall, colorValueCall, colourStatusCall, featuresCall, controlCall, featureByteCall, automaticCall};
+ghost use Rattle.calls.specs.Colours.{tcStepCall, xyStepCall, storeTcLimitCall, stageCall, activateCall, copyReportCall, setFeaturesCall, colorValueCall, colourStatusCall, featuresCall, controlCall, featureByteCall, automaticCall};
 
-// The record with another colour, if it is fit.
-fn recoloured(gear: Gear, colour: Colour) -> Outcome
-    ensures { λ r. ⌜ r ≡ recoloured gear colour ⌝ }
+pub fn tc_step(gear: Gear, warmer: bool) -> Outcome
+    ensures { λ r. ⌜ r ≡ tcStepCall gear warmer ⌝ }
 {
     if gear.fit() {
         let mut next = gear;
-        next.colour = colour;
+        next.colour = step_tc(next.colour, warmer);
         return done(next);
     }
     refused(gear, Refusal::Unfit)
 }
 
-pub fn tc_step(gear: Gear, warmer: bool) -> Outcome
-    ensures { λ r. ⌜ r ≡ tcStepCall gear warmer ⌝ }
-{
-    let colour = gear.colour;
-    recoloured(gear, step_tc(colour, warmer))
-}
-
 pub fn xy_step(gear: Gear, y_axis: bool, up: bool) -> Outcome
     ensures { λ r. ⌜ r ≡ xyStepCall gear «y_axis» up ⌝ }
 {
-    let colour = gear.colour;
-    recoloured(gear, step_xy(colour, y_axis, up))
+    if gear.fit() {
+        let mut next = gear;
+        next.colour = step_xy(next.colour, y_axis, up);
+        return done(next);
+    }
+    refused(gear, Refusal::Unfit)
 }
 
 pub fn store_tc_limit(gear: Gear, value: u16, selector: u8) -> Outcome
     ensures { λ r. ⌜ r ≡ storeTcLimitCall gear value selector ⌝ }
 {
-    let colour = gear.colour;
-    recoloured(gear, store(colour, value, selector))
+    if gear.fit() {
+        let mut next = gear;
+        next.colour = store(next.colour, value, selector);
+        return done(next);
+    }
+    refused(gear, Refusal::Unfit)
 }
 
 // Stages a colour, whatever the gear can do.
 pub fn load_temporaries_from(gear: Gear, setting: ColourSetting) -> Outcome
     ensures { λ r. ⌜ r ≡ stageCall gear setting ⌝ }
 {
-    let colour = gear.colour;
-    recoloured(gear, load(colour, setting))
+    if gear.fit() {
+        // A copy of the colour: where it is staged within `next`, the compiler keeps a second record.
+        let colour = gear.colour;
+        let mut next = gear;
+        next.colour = load(colour, setting);
+        return done(next);
+    }
+    refused(gear, Refusal::Unfit)
 }
 
 pub fn activate_pending_color(gear: Gear) -> Outcome
     ensures { λ r. ⌜ r ≡ activateCall gear ⌝ }
 {
-    let colour = gear.colour;
-    recoloured(gear, activate(colour))
+    if gear.fit() {
+        let mut next = gear;
+        next.colour = activate(next.colour);
+        return done(next);
+    }
+    refused(gear, Refusal::Unfit)
 }
 
 pub fn copy_report_to_temporary(gear: Gear) -> Outcome
     ensures { λ r. ⌜ r ≡ copyReportCall gear ⌝ }
 {
-    let colour = gear.colour;
-    recoloured(gear, copy(colour))
+    if gear.fit() {
+        let mut next = gear;
+        next.colour = copy(next.colour);
+        return done(next);
+    }
+    refused(gear, Refusal::Unfit)
 }
 
 // The whole byte is stored; only bit 0 has an effect.
 pub fn set_gear_features(gear: Gear, features: u8) -> Outcome
     ensures { λ r. ⌜ r ≡ setFeaturesCall gear features ⌝ }
 {
-    let colour = gear.colour;
-    recoloured(gear, colour.with_features(features))
+    if gear.fit() {
+        let mut next = gear;
+        next.colour = next.colour.with_features(features);
+        return done(next);
+    }
+    refused(gear, Refusal::Unfit)
 }
 
 pub fn color_value(gear: Gear, id: u8) -> Answer

@@ -1,5 +1,4 @@
 // Memory calls: those of the bank library, under the fit test.
-use bank::build::Banks;
 use bank::memory::advances_dtr0_past as advances;
 use bank::memory::implements_bank as implements;
 use bank::memory::memory_location as location;
@@ -19,22 +18,7 @@ use gear::answer::refused;
 use gear::record::Gear;
 use gear::serve::tell;
 ghost use mathlib.Core.Path.{_≡_};
-ghost use Rattle.calls.specs.Memory.{rebanked, memoryLocationCall, writeMemoryCall, advancesCall, implementsCall, setLockCall, setLocationCall, setUnitCall, setLastCall, clearNumberCall};
-
-// The record with other banks, if it is fit.
-fn rebanked(gear: Gear, answer: Answer, banks: Banks) -> Outcome
-    ensures { λ r. ⌜ r ≡ rebanked gear answer banks ⌝ }
-{
-    if gear.fit() {
-        let mut next = gear;
-        next.banks = banks;
-        return Outcome {
-            answer: answer,
-            gear: next,
-        };
-    }
-    refused(gear, Refusal::Unfit)
-}
+ghost use Rattle.calls.specs.Memory.{memoryLocationCall, writeMemoryCall, advancesCall, implementsCall, setLockCall, setLocationCall, setUnitCall, setLastCall, clearNumberCall};
 
 pub fn memory_location(gear: Gear, bank: u8, offset: u8) -> Answer
     ensures { λ r. ⌜ r ≡ memoryLocationCall gear bank offset ⌝ }
@@ -50,11 +34,19 @@ pub fn memory_location(gear: Gear, bank: u8, offset: u8) -> Answer
 pub fn write_memory_location(gear: Gear, bank: u8, offset: u8, value: u8) -> Outcome
     ensures { λ r. ⌜ r ≡ writeMemoryCall gear bank offset value ⌝ }
 {
-    let banks = gear.banks;
-    let written = write(banks, gear.faults.unstored, bank, offset, value);
-    let found = written.answer;
-    let rest = written.banks;
-    rebanked(gear, location_answer(found), rest)
+    if gear.fit() {
+        let banks = gear.banks;
+        let written = write(banks, gear.faults.unstored, bank, offset, value);
+        let found = written.answer;
+        let rest = written.banks;
+        let mut next = gear;
+        next.banks = rest;
+        return Outcome {
+            answer: location_answer(found),
+            gear: next,
+        };
+    }
+    refused(gear, Refusal::Unfit)
 }
 
 pub fn advances_dtr0_past(gear: Gear, bank: u8, offset: u8) -> Answer
@@ -76,34 +68,54 @@ pub fn implements_bank(gear: Gear, bank: u8) -> Answer
 pub fn set_bank1_lock_byte(gear: Gear, value: u8) -> Outcome
     ensures { λ r. ⌜ r ≡ setLockCall gear value ⌝ }
 {
-    let banks = gear.banks;
-    rebanked(gear, Answer::Done, set_lock(banks, value))
+    if gear.fit() {
+        let mut next = gear;
+        next.banks = set_lock(next.banks, value);
+        return done(next);
+    }
+    refused(gear, Refusal::Unfit)
 }
 
 pub fn set_bank1_location(gear: Gear, offset: u8, value: u8) -> Outcome
     ensures { λ r. ⌜ r ≡ setLocationCall gear offset value ⌝ }
 {
-    let banks = gear.banks;
-    rebanked(gear, Answer::Done, set_location(banks, offset, value))
+    if gear.fit() {
+        let mut next = gear;
+        next.banks = set_location(next.banks, offset, value);
+        return done(next);
+    }
+    refused(gear, Refusal::Unfit)
 }
 
 pub fn set_logical_gear_unit(gear: Gear, units: u8, index: u8) -> Outcome
     ensures { λ r. ⌜ r ≡ setUnitCall gear units index ⌝ }
 {
-    let banks = gear.banks;
-    rebanked(gear, Answer::Done, set_unit(banks, units, index))
+    if gear.fit() {
+        let mut next = gear;
+        next.banks = set_unit(next.banks, units, index);
+        return done(next);
+    }
+    refused(gear, Refusal::Unfit)
 }
 
 pub fn set_bank0_last_offset(gear: Gear, last: u8) -> Outcome
     ensures { λ r. ⌜ r ≡ setLastCall gear last ⌝ }
 {
-    let banks = gear.banks;
-    rebanked(gear, Answer::Done, set_last(banks, last))
+    if gear.fit() {
+        let mut next = gear;
+        next.banks = set_last(next.banks, last);
+        return done(next);
+    }
+    refused(gear, Refusal::Unfit)
 }
 
 pub fn clear_identification_number(gear: Gear) -> Outcome
     ensures { λ r. ⌜ r ≡ clearNumberCall gear ⌝ }
 {
-    let banks = gear.banks;
-    rebanked(gear, Answer::Done, clear_number(banks))
+    if gear.fit() {
+        let mut next = gear;
+        next.banks = clear_number(next.banks);
+        return done(next);
+    }
+    refused(gear, Refusal::Unfit)
 }

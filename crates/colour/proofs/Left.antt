@@ -10,8 +10,9 @@ use Rattle.colour.specs.declared.tint.ColorMode.{ColorMode}
 use Rattle.colour.specs.declared.tint.ColorMode.the-variants.{None, Cct, Xy, Rgb}
 use Rattle.colour.specs.declared.tint.Tint.{Tint}
 use Rattle.colour.specs.Activation.{activated, strays, activate, automatic, arcPower, recall}
+use Rattle.colour.specs.Bounded.{bounded, putBack, storeBounded}
 use Rattle.colour.specs.Staging.{withPending, loadTemporariesFrom, copyReport, takeStagedColour}
-use Rattle.colour.specs.Steps.{tcStep, xyStep, storeTcLimit}
+use Rattle.colour.specs.Steps.{snapped, snaps, storeTcLimit, tcStep, xyStep}
 use Rattle.colour.specs.Tint.{dark, unstaged}
 use Rattle.numbers.proofs.Logic.{by-cases}
 
@@ -65,6 +66,11 @@ pub store-tc-limit-left : (c : Colour) (v s : ℕ) → Left c (storeTcLimit c v 
 unfolding storeTcLimit
 store-tc-limit-left c v s =
     by-cases (leb s 3) (λ e. rw e (record { can = refl; report = refl; features = refl })) (λ e. rw e (left-refl c))
+
+-- whatever else a colour has, the limit store reads and changes its bounded numbers alone
+pub store-put-back : (c : Colour) (v s : ℕ) → putBack c (storeBounded (bounded c) v s) ≡ storeTcLimit c v s
+unfolding storeTcLimit snapped snaps
+store-put-back c v s = by-cases (leb s 3) (λ e. rw e) (λ e. rw e)
 
 -- ---- nothing staged
 

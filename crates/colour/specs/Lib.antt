@@ -1,4 +1,5 @@
 pub mod Activation
+pub mod Bounded
 pub mod Kinds
 pub mod Limits
 pub mod Record

@@ -71,7 +71,8 @@ fn activated(active: Tint, pending: Tint, limits: Limits) -> Tint
 fn strays(outside: bool, pending: Tint, limits: Limits) -> bool
     ensures { λ r. ⌜ r ≡ strays outside pending limits ⌝ }
 {
-    if pending.is_cct() {
+    let mode = pending.mode;
+    if mode.is_cct() {
         let coolest = limits.effective_coolest();
         let warmest = limits.effective_warmest();
         return clamp(pending.tc, coolest, warmest) != pending.tc;
@@ -103,10 +104,12 @@ fn is_idle(colour: Colour) -> bool
     ensures { λ r. ⌜ r ≡ isIdle colour ⌝ }
 {
     if automatic_activation(colour) {
-        if colour.pending.is_lit() {
+        let pending = colour.pending;
+        let mode = pending.mode;
+        if mode.is_lit() {
             return false;
         }
-        return colour.pending.control == ColourSetting::CONTROL_MASK;
+        return pending.control == ColourSetting::CONTROL_MASK;
     }
     true
 }

@@ -73,7 +73,8 @@ pub fn take_staged_colour(colour: Colour, kept: ColourSetting) -> Taken
     ensures { λ r. ⌜ r ≡ takeStagedColour colour kept ⌝ }
 {
     let pending = colour.pending;
-    if pending.is_lit() {
+    let mode = pending.mode;
+    if mode.is_lit() {
         let mut next = colour;
         next.pending = pending.unstaged();
         return Taken {

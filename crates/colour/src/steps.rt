@@ -1,14 +1,14 @@
 // Steps of the active colour, and the limit store that can move it.
+use crate::bounded::BoundedTc;
 use crate::limits::Limits;
 use crate::record::Colour;
 use crate::tint::Tint;
-use numbers::word::clamp;
 use numbers::word::max;
 use numbers::word::min;
 use numbers::word::saturating_add;
 use numbers::word::saturating_sub;
 ghost use mathlib.Core.Path.{_≡_};
-ghost use Rattle.colour.specs.Steps.{steppedTc, steppedXy, tcStep, moved, xyStep, snapped, snaps, storeTcLimit};
+ghost use Rattle.colour.specs.Steps.{steppedTc, steppedXy, tcStep, moved, xyStep, storeTcLimit};
 
 // How far a coordinate moves in a step, and the last one.
 const XY_STEP: u16 = 256;
@@ -34,39 +34,14 @@ fn stepped_xy(at: u16, up: bool) -> u16
     saturating_sub(at, XY_STEP)
 }
 
-// Whether a new limit moves an active colour temperature.
-fn snaps(active: Tint, limits: Limits) -> bool
-    ensures { λ r. ⌜ r ≡ snaps active limits ⌝ }
-{
-    if active.is_cct() {
-        let coolest = limits.effective_coolest();
-        let warmest = limits.effective_warmest();
-        return clamp(active.tc, coolest, warmest) != active.tc;
-    }
-    false
-}
-
-// The active colour within new limits.
-fn snapped(active: Tint, limits: Limits) -> Tint
-    ensures { λ r. ⌜ r ≡ snapped active limits ⌝ }
-{
-    let mut next = active;
-    if active.is_cct() {
-        let coolest = limits.effective_coolest();
-        let warmest = limits.effective_warmest();
-        next.tc = clamp(active.tc, coolest, warmest);
-        return next;
-    }
-    next
-}
-
 // One step warmer or cooler, for an active colour temperature alone; it ends within the limits.
 pub fn tc_step(colour: Colour, warmer: bool) -> Colour
     ensures { λ r. ⌜ r ≡ tcStep colour warmer ⌝ }
 {
     let mut active = colour.active;
     let limits = colour.limits;
-    if active.is_cct() {
+    let mode = active.mode;
+    if mode.is_cct() {
         active.tc = stepped_tc(active.tc, limits, warmer);
         let mut next = colour;
         next.active = active;
@@ -94,7 +69,8 @@ pub fn xy_step(colour: Colour, y_axis: bool, up: bool) -> Colour
     ensures { λ r. ⌜ r ≡ xyStep colour «y_axis» up ⌝ }
 {
     let active = colour.active;
-    if active.is_xy() {
+    let mode = active.mode;
+    if mode.is_xy() {
         let mut next = colour;
         next.active = moved(active, y_axis, up);
         return next;
@@ -102,21 +78,24 @@ pub fn xy_step(colour: Colour, y_axis: bool, up: bool) -> Colour
     colour
 }
 
-// Part 209, 9.13: the limit that the selector names, and then an active colour temperature is snapped and marked.
+// Part 209, 9.13: the limit store, on the few numbers that it works on, which are then put back.
 pub fn store_tc_limit(colour: Colour, value: u16, selector: u8) -> Colour
     ensures { λ r. ⌜ r ≡ storeTcLimit colour value selector ⌝ }
 {
-    if 3 < selector {
-        return colour;
-    }
-    let limits = colour.limits.store(value, selector);
+    let limits = colour.limits;
     let active = colour.active;
+    let mode = active.mode;
+    let bounded = BoundedTc {
+        limits: limits,
+        tc: active.tc,
+        mode: mode,
+        outside: colour.outside,
+    };
+    let stored = bounded.store(value, selector);
+    let held = stored.limits;
     let mut next = colour;
-    next.limits = limits;
-    next.active = snapped(active, limits);
-    if snaps(active, limits) {
-        next.outside = true;
-        return next;
-    }
+    next.limits = held;
+    next.active.tc = stored.tc;
+    next.outside = stored.outside;
     next
 }

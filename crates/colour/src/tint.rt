@@ -32,6 +32,45 @@ pub(crate) fn colour_type_byte(mode: ColorMode) -> u8
     }
 }
 
+impl ColorMode {
+    pub(crate) fn is_cct(self) -> bool
+        ensures { λ r. ⌜ r ≡ isCct self ⌝ }
+    {
+        let mode = self;
+        match mode {
+            ColorMode::None => false,
+            ColorMode::Xy => false,
+            ColorMode::Cct => true,
+            ColorMode::Rgb => false,
+        }
+    }
+
+    pub(crate) fn is_xy(self) -> bool
+        ensures { λ r. ⌜ r ≡ isXy self ⌝ }
+    {
+        let mode = self;
+        match mode {
+            ColorMode::None => false,
+            ColorMode::Xy => true,
+            ColorMode::Cct => false,
+            ColorMode::Rgb => false,
+        }
+    }
+
+    // Any mode but none.
+    pub(crate) fn is_lit(self) -> bool
+        ensures { λ r. ⌜ r ≡ isLit self ⌝ }
+    {
+        let mode = self;
+        match mode {
+            ColorMode::None => false,
+            ColorMode::Xy => true,
+            ColorMode::Cct => true,
+            ColorMode::Rgb => true,
+        }
+    }
+}
+
 impl Tint {
     // No mode, and every number 0 but the control.
     pub(crate) fn dark(control: u8) -> Tint
@@ -47,48 +86,12 @@ impl Tint {
         }
     }
 
-    pub(crate) fn is_cct(self) -> bool
-        ensures { λ r. ⌜ r ≡ isCct (self .mode) ⌝ }
-    {
-        let mode = self.mode;
-        match mode {
-            ColorMode::None => false,
-            ColorMode::Xy => false,
-            ColorMode::Cct => true,
-            ColorMode::Rgb => false,
-        }
-    }
-
-    pub(crate) fn is_xy(self) -> bool
-        ensures { λ r. ⌜ r ≡ isXy (self .mode) ⌝ }
-    {
-        let mode = self.mode;
-        match mode {
-            ColorMode::None => false,
-            ColorMode::Xy => true,
-            ColorMode::Cct => false,
-            ColorMode::Rgb => false,
-        }
-    }
-
-    // Any mode but none.
-    pub(crate) fn is_lit(self) -> bool
-        ensures { λ r. ⌜ r ≡ isLit (self .mode) ⌝ }
-    {
-        let mode = self.mode;
-        match mode {
-            ColorMode::None => false,
-            ColorMode::Xy => true,
-            ColorMode::Cct => true,
-            ColorMode::Rgb => true,
-        }
-    }
-
     // A colour temperature that lies within the effective limits; the other modes have none to lie outside.
     pub(crate) fn lies_within(self, limits: Limits) -> bool
         ensures { λ r. ⌜ r ≡ liesWithin self limits ⌝ }
     {
-        if self.is_cct() {
+        let mode = self.mode;
+        if mode.is_cct() {
             let warmest = limits.effective_warmest();
             if self.tc < limits.effective_coolest() {
                 return false;

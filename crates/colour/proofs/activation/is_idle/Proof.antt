@@ -12,11 +12,11 @@ is-lit-requires c κs = search needs
 
 returns : tie.Need-returns
 unfolding isIdle
-returns c = simp (c .if2 .taken, ← c .before .is-lit .ensures, c .before .before .if1 .taken, ← c .before .before .before .automatic-activation .ensures)
+returns c = simp (c .if2 .taken, ← c .before .is-lit .ensures, c .before .before .before .if1 .taken, ← c .before .before .before .before .automatic-activation .ensures)
 
 returns-2 : tie.Need-returns-2
 unfolding isIdle
-returns-2 c = simp (c .before .if2 .left, ← c .before .before .is-lit .ensures, c .before .before .before .if1 .taken, ← c .before .before .before .before .automatic-activation .ensures)
+returns-2 c = simp (c .before .if2 .left, ← c .before .before .is-lit .ensures, c .before .before .before .before .if1 .taken, ← c .before .before .before .before .before .automatic-activation .ensures)
 
 returns-3 : tie.Need-returns-3
 unfolding isIdle
