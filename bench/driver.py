@@ -1,4 +1,4 @@
-"""What bench/run, bench/where and bench/try share: the driver, its mixes, and how a program for x86-64 is started here."""
+"""What the programs of bench/ share: the driver, its mixes, the kit, and how a program for x86-64 is started here."""
 import os
 import pathlib
 import platform
