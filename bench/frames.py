@@ -13,7 +13,7 @@ GROWS = re.compile(r"\bsub +\$0x([0-9a-f]+),%rsp$")
 # A frame of many pages is touched page by page; %r11 holds where that ends.
 PAGES = re.compile(r"\bsub +\$0x([0-9a-f]+),%r11$")
 PUSH = re.compile(r"\bpush +%")
-# What a function keeps below the stack's end, where nothing that it calls writes: up to 128 bytes, by the processor's convention.
+# What a function that calls no other keeps below the end of the stack: up to 128 bytes, as the convention for x86-64 allows.
 BELOW_END = re.compile(r"(?<![\w)])-0x([0-9a-f]+)\(%rsp")
 BRANCH = re.compile(r"\b(call|jmp|j[a-z]+) +[0-9a-f]+ <([^>]+?)(@plt)?>")
 THROUGH_POINTER = re.compile(r"\bcall +\*")
