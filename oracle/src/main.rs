@@ -67,7 +67,8 @@ format of a list is in oracle/FORMAT.md, that of a session file in document 01.
   oracle sessions SEED COUNT     write COUNT session files made from the seed, framed. Nearly half are well
                                  formed: 0 to 4,096 steps, whose bytes fit the record that they meet. The
                                  others are cut off (short files after each byte in turn), have fields out
-                                 of range, bytes too many, two faults or more, or consist of any bytes
+                                 of range, bytes too many, two faults or more, or consist of any bytes.
+                                 Every hundredth asks for all colour value ids
   oracle reach [--summary]       read framed session files, count what they reach: faults, lengths, profiles,
                                  steps, answers; status 1 where something is missed
 
