@@ -14,8 +14,7 @@ impl Capability {
     pub(crate) fn is_had(self, can: Capabilities) -> bool
         ensures { λ r. ⌜ r ≡ has can self ⌝ }
     {
-        let capability = self;
-        match capability {
+        match self {
             Capability::Xy => can.xy,
             Capability::Tc => can.tc,
             Capability::Channels => 0 < can.channels,
@@ -26,8 +25,7 @@ impl Capability {
     pub fn number(self) -> u8
         ensures { λ r. ⌜ r ≡ capabilityNumber self ⌝ }
     {
-        let capability = self;
-        match capability {
+        match self {
             Capability::Xy => 1,
             Capability::Tc => 2,
             Capability::Channels => 3,
