@@ -21,11 +21,15 @@ static void holds(const char *what, int is_true) {
     printf("%s\n", what);
 }
 
-/* Document 01's example: types 8; SetMaxLevel 200, arc power 254, queries 160 and 144, power cycle. */
+/* Document 01's example: type 8 with Tc 153..400, no xy, no channels; SetMaxLevel 200, arc power 254, queries 160 and
+ * 144, power cycle. */
 static const uint8_t session[36] = {1,   8,    11, 5,    0,    0,    1, 1, 0,    0,    0x99, 1, 0x90, 1,    0, 5, 1, 0x2A,
                                     200, 0,    0,  0xFE, 0,    0,    2, 160, 0,  0,    2,    144, 0,  0,    10, 0, 0, 0};
 static const char lines[] = "1 .\n2 .\n3 200\n4 12\n5 .\nend 254 1 200\n";
 enum { LINES = sizeof lines - 1, ROOM = 5 * 11 + 16, UNTOUCHED = 0xA5 };
+
+/* Where the profile has its flags and its number of channels, and the two flags that are capabilities. */
+enum { FLAGS_AT = 7, CHANNELS_AT = 8, FLAG_TC = 1, FLAG_XY = 2 };
 
 static uint8_t out[DALI_GEAR_LINES_MAX];
 
@@ -65,9 +69,96 @@ static void runs(void) {
 static void answers(void) {
     expect("ask for the level", dali_gear_session_ask(session, 36, 2, 160, 0, 0), DALI_GEAR_VALUE, 254);
     expect("ask for the next type", dali_gear_session_ask(session, 36, 2, 167, 0, 0), DALI_GEAR_NOTHING, 0);
+    expect("ask for bank 2", dali_gear_session_ask(session, 36, 3, 2, 0, 0), DALI_GEAR_NOTHING, 0);
+    expect("ask to write bank 0", dali_gear_session_ask(session, 36, 4, 0, 3, 1), DALI_GEAR_NOTHING, 0);
     expect("ask for a write", dali_gear_session_ask(session, 36, 1, 0, 0, 0), DALI_GEAR_DONE, 0);
     expect("ask for byte 9", dali_gear_session_ask(session, 36, 1, 9, 0, 0), DALI_GEAR_BYTE, 0);
     expect("ask for kind 200", dali_gear_session_ask(session, 36, 200, 0, 0, 0), DALI_GEAR_BYTE, 0);
+}
+
+/* Asks the example's gear, with other capabilities, for a colour value. */
+static struct dali_gear_result colour_value(int flags, int channels, int id) {
+    uint8_t file[sizeof session];
+    memcpy(file, session, sizeof file);
+    file[FLAGS_AT] = (uint8_t)flags;
+    file[CHANNELS_AT] = (uint8_t)channels;
+    return dali_gear_session_ask(file, sizeof file, 5, (uint8_t)id, 0, 0);
+}
+
+/* One of each sort. The numbers of a colour are masked, since none was ever staged. */
+static void colours(void) {
+    expect("Tc", colour_value(FLAG_TC, 0, 2), DALI_GEAR_VALUE, 65535);
+    expect("coolest", colour_value(FLAG_TC, 0, 128), DALI_GEAR_VALUE, 153);
+    expect("physical coolest", colour_value(FLAG_TC, 0, 129), DALI_GEAR_VALUE, 153);
+    expect("warmest", colour_value(FLAG_TC, 0, 130), DALI_GEAR_VALUE, 400);
+    expect("physical warmest", colour_value(FLAG_TC, 0, 131), DALI_GEAR_VALUE, 400);
+    expect("a primary's x", colour_value(FLAG_TC, 0, 64), DALI_GEAR_VALUE, 65535);
+    expect("how many primaries", colour_value(FLAG_TC, 0, 82), DALI_GEAR_VALUE, 0);
+    expect("staged type", colour_value(FLAG_TC, 0, 208), DALI_GEAR_VALUE, 255);
+    expect("report type", colour_value(FLAG_TC, 0, 240), DALI_GEAR_VALUE, 255);
+    expect("x, without xy", colour_value(FLAG_TC, 0, 0), DALI_GEAR_INCAPABLE, DALI_GEAR_XY);
+    expect("red, without channels", colour_value(FLAG_TC, 0, 9), DALI_GEAR_INCAPABLE, DALI_GEAR_CHANNELS);
+    expect("Tc, without Tc", colour_value(0, 0, 2), DALI_GEAR_INCAPABLE, DALI_GEAR_TC);
+    expect("id 63", colour_value(FLAG_TC, 0, 63), DALI_GEAR_NOTHING, 0);
+    expect("id 3", colour_value(FLAG_TC, 0, 3), DALI_GEAR_NOTHING, 0);
+    expect("the second channel of one", colour_value(0, 1, 10), DALI_GEAR_VALUE, 255);
+}
+
+/* Part 209's table 11: the ids that there are, and the capability that each needs, or none. */
+enum { NO_CAPABILITY = 0 };
+static const struct {
+    int first, last;
+    size_t needs;
+} ids[] = {
+    {0, 1, DALI_GEAR_XY}, {192, 193, DALI_GEAR_XY}, {224, 225, DALI_GEAR_XY},
+    {2, 2, DALI_GEAR_TC}, {128, 131, DALI_GEAR_TC}, {194, 194, DALI_GEAR_TC}, {226, 226, DALI_GEAR_TC},
+    {9, 15, DALI_GEAR_CHANNELS}, {201, 207, DALI_GEAR_CHANNELS}, {233, 239, DALI_GEAR_CHANNELS},
+    {64, 82, NO_CAPABILITY}, {208, 208, NO_CAPABILITY}, {240, 240, NO_CAPABILITY},
+};
+
+static int can(int flags, int channels, size_t capability) {
+    switch (capability) {
+    case DALI_GEAR_XY: return (flags & FLAG_XY) != 0;
+    case DALI_GEAR_TC: return (flags & FLAG_TC) != 0;
+    case DALI_GEAR_CHANNELS: return channels != 0;
+    default: return 1;
+    }
+}
+
+/* What is due for an id. The table is asked first, then the gear; of a value the code alone is due. */
+static struct dali_gear_result due(int flags, int channels, int id) {
+    struct dali_gear_result result = {DALI_GEAR_NOTHING, 0};
+    for (size_t i = 0; i < sizeof ids / sizeof *ids; i++)
+        if (ids[i].first <= id && id <= ids[i].last) {
+            int able = can(flags, channels, ids[i].needs);
+            result.code = able ? DALI_GEAR_VALUE : DALI_GEAR_INCAPABLE;
+            result.detail = able ? 0 : ids[i].needs;
+        }
+    return result;
+}
+
+static void every_colour_value(void) {
+    for (int flags = 0; flags <= (FLAG_TC | FLAG_XY); flags++)
+        for (int channels = 0; channels <= 6; channels++)
+            for (int id = 0; id <= 255; id++) {
+                char what[64];
+                struct dali_gear_result want = due(flags, channels, id), got = colour_value(flags, channels, id);
+                snprintf(what, sizeof what, "flags %d, %d channels, colour value %d", flags, channels, id);
+                expect(what, got, want.code, want.code == DALI_GEAR_VALUE ? got.detail : want.detail);
+            }
+}
+
+static void says(size_t detail, const char *words) {
+    holds(words, strcmp(dali_gear_lacks(detail), words) == 0);
+}
+
+/* What a panel shows of a gear that lacks something, and of a detail that is none of these. */
+static void words(void) {
+    says(DALI_GEAR_XY, "this gear has no xy colour");
+    says(DALI_GEAR_TC, "this gear has no colour temperature");
+    says(DALI_GEAR_CHANNELS, "this gear has no colour channels");
+    says(0, "this gear lacks what this value needs");
+    says(4, "this gear lacks what this value needs");
 }
 
 /* What each function gives for a malformed file: all of them name the same offset. */
@@ -81,6 +172,7 @@ static void malformed(const char *what, const uint8_t *file, size_t len, size_t 
     expect(what, dali_gear_session_run(file, len, NULL, 0), DALI_GEAR_MALFORMED, offset);
     expect(what, dali_gear_session_ask(file, len, 2, 160, 0, 0), DALI_GEAR_MALFORMED, offset);
     expect(what, dali_gear_session_ask(file, len, 1, 9, 0, 0), DALI_GEAR_MALFORMED, offset);
+    expect(what, dali_gear_session_ask(file, len, 5, 0, 0, 0), DALI_GEAR_MALFORMED, offset);
     expect(what, dali_gear_session_ask(file, len, 200, 0, 0, 0), DALI_GEAR_MALFORMED, offset);
     expect(what, dali_gear_session_report(file, len, out, 15), DALI_GEAR_SHORT, 16);
     holds(what, untouched());
@@ -118,6 +210,9 @@ int main(void) {
     nothing_written();
     runs();
     answers();
+    colours();
+    every_colour_value();
+    words();
     malformed_files();
     printf("%d of %d as the header says\n", tried - failed, tried);
     return failed != 0;

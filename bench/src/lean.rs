@@ -1,6 +1,7 @@
 //! A runner on the Rust gear as one would write it for speed: the file is read once, each step is a call on
 //! one record in place, and the lines go into a lent buffer. Nothing is allocated but the gear's own list of types.
 
+use crate::absent::absence;
 use crate::answer::{Answer, BYTE_NOT_IN_TABLE, STEP_KIND_NOT_LISTED};
 use crate::gear::{apply_standard_write, gear_query_reply, ColourSetting, Gear};
 use crate::profile::{Profile, CODES_LEN};
@@ -72,7 +73,7 @@ fn perform(gear: &mut Gear, kind: u8, a: u8, b: u8, c: u8) -> Answer {
         QUERY => return query(gear, a),
         MEMORY_READ => return Answer::of_byte(gear.memory_location(a, b)),
         MEMORY_WRITE => return Answer::of_byte(gear.write_memory_location(a, b, c)),
-        COLOUR_VALUE => return Answer::of_word(gear.color_value(a)),
+        COLOUR_VALUE => return colour_value(gear, a),
         TC_LIMIT => gear.store_tc_limit(word(b, c), a),
         TC_STEP => gear.tc_step(a != 0),
         STAGE_TC => stage(gear, word(b, c)),
@@ -90,6 +91,14 @@ fn query(gear: &mut Gear, byte: u8) -> Answer {
         Some(TransferOutcome::Answer(value)) => Answer::Value(value.into()),
         Some(TransferOutcome::NoAnswer) => Answer::None,
         None => BYTE_NOT_IN_TABLE,
+    }
+}
+
+/// Why there is no value is looked up only where the Rust gives none.
+fn colour_value(gear: &Gear, id: u8) -> Answer {
+    match gear.color_value(id) {
+        Some(value) => Answer::Value(value),
+        None => Answer::of_absence(absence(id, &gear.spec).expect("a value that is absent has a reason")),
     }
 }
 

@@ -20,6 +20,7 @@ macro_rules! of_the_oracle {
 of_the_oracle! {
     "../../oracle/standins/luminaire.rs" luminaire,
     "../../oracle/standins/metering.rs" metering,
+    "../../oracle/src/absent.rs" absent,
     "../../oracle/src/answer.rs" answer,
     "../../oracle/src/call.rs" call,
     "../../oracle/src/calls.rs" calls,

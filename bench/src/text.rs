@@ -10,6 +10,7 @@ pub fn line(out: &mut [u8], at: usize, number: u32, answer: Answer) -> usize {
         Answer::Done => put(out, at, [b'.']),
         Answer::Value(value) => decimal(out, at, value.into()),
         Answer::None => put(out, at, [b'-']),
+        Answer::NotCapable(_) => put(out, at, [b'~']),
         Answer::Refused(number) => put(out, at, [b'!', b'0' + number]),
         Answer::Bool(_) => unreachable!("no step asks for a yes or no"),
     };

@@ -1,7 +1,7 @@
 /* A proved record of a DALI lighting gear, for programs in C.
  *
- * A session file holds a gear's profile and the steps sent to it (document 01, 'Session file and
- * runner'; examples/README.md has a readable form of it). These functions judge a file, run it, and
+ * A session file holds a gear's profile and the steps sent to it (docs/SESSION.md says it byte by
+ * byte; examples/README.md has a readable form of it). These functions judge a file, run it, and
  * ask the record that its steps leave. What each of them answers is proved for every input; this
  * header only carries their arguments over. They allocate nothing, keep nothing between calls, and
  * may be called from several threads at once.
@@ -27,8 +27,16 @@ enum dali_gear_code {
     DALI_GEAR_GROUP = 4,      /* group address above 15 */
     DALI_GEAR_MALFORMED = 5,  /* session file malformed; the detail is the offset of its lowest fault */
     DALI_GEAR_VALUE = 16,     /* the detail is the value */
-    DALI_GEAR_NOTHING = 17,   /* no value: the gear has no answer to give */
-    DALI_GEAR_SHORT = 18      /* the buffer is too short; the detail is the number of bytes it needs */
+    DALI_GEAR_NOTHING = 17,   /* no value: no answer to give, or a colour value that no gear has */
+    DALI_GEAR_SHORT = 18,     /* the buffer is too short; the detail is the number of bytes it needs */
+    DALI_GEAR_INCAPABLE = 19  /* a colour value that this gear can't have; the detail says what it lacks */
+};
+
+/* What a gear may lack: the detail of INCAPABLE. */
+enum dali_gear_capability {
+    DALI_GEAR_XY = 1,       /* colours by x and y */
+    DALI_GEAR_TC = 2,       /* colour temperatures */
+    DALI_GEAR_CHANNELS = 3  /* a colour channel, or more */
 };
 
 /* What each function gives. Of its cases the first that fits counts; the room of a file is what
@@ -53,13 +61,20 @@ enum dali_gear_code {
  *   ask       a malformed file, whatever is asked     MALFORMED  the offset of its lowest fault
  *             kind 1 or 2, byte a not in its table    BYTE       0
  *             a kind above 12                         BYTE       0
+ *             kind 5, no gear has id a                NOTHING    0
+ *             kind 5, this gear can't have id a       INCAPABLE  what it lacks: 1 xy, 2 Tc, 3 channels
  *             kinds 2 to 5, and there is a value      VALUE      the value, 0 to 65535
- *             kinds 2 to 5, and there is none         NOTHING    0
+ *             kinds 2 to 4, and there is none         NOTHING    0
  *             else, which is kinds 0, 1 and 6 to 12   DONE       0
  *
  * So run judges the file first and then out, and report judges out first. Without DONE no byte of out is
  * written; with it, the bytes behind the written ones stay as they were. PROFILE, UNFIT and GROUP are
- * given by none of the five: the record of a well-formed file is fit, and no step has a group address. */
+ * given by none of the five: the record of a well-formed file is fit, and no step has a group address.
+ *
+ * A colour value (kind 5) is absent for one of two reasons. Neither is a wiring fault, and a panel should
+ * not show them alike. NOTHING: no gear has this id, so that the fault is in the panel's own program.
+ * INCAPABLE: there is such an id, and this gear is built without what it needs, so that there is nothing to
+ * mend; dali_gear_lacks has the words to show. docs/SESSION.md lists the ids with what each needs. */
 
 /* A session file has at most so many bytes. */
 #define DALI_GEAR_FILE_MAX 16412
@@ -138,15 +153,26 @@ static inline struct dali_gear_result dali_gear_session_report(const uint8_t *fi
 }
 
 /* Performs one more step, of the session's kinds, on the record that the file's steps leave, and gives
- * its answer: DONE, VALUE with the value, NOTHING, or BYTE. A malformed file has no record to ask: it is
- * MALFORMED with the offset, whatever is asked. The file stays as it is: to keep the step, add it to the
- * file. So kind 2 with a = 160 asks for the level that the lamp has now. */
+ * its answer: DONE, VALUE with the value, NOTHING, INCAPABLE with what the gear lacks, or BYTE. A
+ * malformed file has no record to ask: it is MALFORMED with the offset, whatever is asked. The file stays
+ * as it is: to keep the step, add it to the file. So kind 2 with a = 160 asks for the level that the lamp
+ * has now, and kind 5 with a = 2 for its colour temperature in mirek (65535 while none is active). */
 static inline struct dali_gear_result dali_gear_session_ask(const uint8_t *file, size_t file_len, uint8_t kind,
                                                             uint8_t a, uint8_t b, uint8_t c) {
     struct dali_gear_result result;
     file = dali_gear_bytes(file, &file_len);
     result.code = dali_gear_ask(file, file_len, kind, a, b, c, &result.detail);
     return result;
+}
+
+/* What a panel shows for INCAPABLE, by its detail. */
+static inline const char *dali_gear_lacks(size_t detail) {
+    switch (detail) {
+    case DALI_GEAR_XY: return "this gear has no xy colour";
+    case DALI_GEAR_TC: return "this gear has no colour temperature";
+    case DALI_GEAR_CHANNELS: return "this gear has no colour channels";
+    default: return "this gear lacks what this value needs";
+    }
 }
 
 #ifdef __cplusplus

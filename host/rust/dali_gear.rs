@@ -43,8 +43,46 @@ impl Refusal {
             2 => Refusal::Unfit,
             3 => Refusal::Byte,
             4 => Refusal::Group,
-            _ => Refusal::File(detail),
+            5 => Refusal::File(detail),
+            _ => unknown(number, detail),
         }
+    }
+}
+
+/// What a gear may lack for a colour value.
+#[derive(Clone, Copy, Debug, PartialEq, Eq)]
+pub enum Capability {
+    /// Colours by x and y.
+    Xy,
+    /// Colour temperatures.
+    Tc,
+    /// A colour channel, or more.
+    Channels,
+}
+
+impl Capability {
+    /// What a panel shows of a gear that lacks it.
+    pub fn words(self) -> &'static str {
+        match self {
+            Capability::Xy => "this gear has no xy colour",
+            Capability::Tc => "this gear has no colour temperature",
+            Capability::Channels => "this gear has no colour channels",
+        }
+    }
+
+    fn of(detail: usize) -> Capability {
+        match detail {
+            1 => Capability::Xy,
+            2 => Capability::Tc,
+            3 => Capability::Channels,
+            _ => unknown(INCAPABLE, detail),
+        }
+    }
+}
+
+impl core::fmt::Display for Capability {
+    fn fmt(&self, f: &mut core::fmt::Formatter) -> core::fmt::Result {
+        f.write_str(self.words())
     }
 }
 
@@ -53,7 +91,10 @@ impl Refusal {
 pub enum Answer {
     Done,
     Value(u16),
+    /// No value: no answer to give, or a colour value that no gear has.
     Nothing,
+    /// A colour value that this gear can't have, and what it lacks.
+    Incapable(Capability),
     Refused(Refusal),
 }
 
@@ -74,6 +115,14 @@ const DONE: u32 = 0;
 const MALFORMED: u32 = 5;
 const VALUE: u32 = 16;
 const NOTHING: u32 = 17;
+const SHORT: u32 = 18;
+const INCAPABLE: u32 = 19;
+
+/// A code that these calls do not give, as a library of another version might: it stops the program, since any
+/// answer that were made of it would be a wrong one.
+fn unknown(code: u32, detail: usize) -> ! {
+    panic!("the library gave code {code} with detail {detail}, which host/rust/dali_gear.rs does not know")
+}
 
 mod library {
     extern "C" {
@@ -104,7 +153,8 @@ pub fn check(file: &[u8]) -> Result<(), usize> {
     // The pointers come from references that live through the call, with their own lengths.
     match unsafe { library::dali_gear_check(file.as_ptr(), file.len(), &mut detail) } {
         DONE => Ok(()),
-        _ => Err(detail),
+        MALFORMED => Err(detail),
+        code => unknown(code, detail),
     }
 }
 
@@ -124,7 +174,8 @@ pub fn run<'a>(file: &[u8], out: &'a mut [u8]) -> Result<&'a [u8], NotRun> {
     match code {
         DONE => Ok(&out[..detail]),
         MALFORMED => Err(NotRun::Malformed(detail)),
-        _ => Err(NotRun::Short(detail)),
+        SHORT => Err(NotRun::Short(detail)),
+        _ => unknown(code, detail),
     }
 }
 
@@ -132,9 +183,12 @@ pub fn run<'a>(file: &[u8], out: &'a mut [u8]) -> Result<&'a [u8], NotRun> {
 /// step, add it to the file.
 ///
 /// A malformed file is `Refused(File(offset))`, whatever the step is. Else a kind above 12, and a byte that is
-/// not listed in kinds 1 and 2, is `Refused(Byte)`; kinds 2 to 5 give `Value` or `Nothing`, and the others
-/// `Done`. No other refusal is given: the record of a well-formed file is fit, and no step has a group
-/// address.
+/// not listed in kinds 1 and 2, is `Refused(Byte)`; kinds 2 to 5 give `Value` or `Nothing`, kind 5 also
+/// `Incapable`, and the others `Done`. No other refusal is given: the record of a well-formed file is fit, and
+/// no step has a group address.
+///
+/// Kind 5 asks for a colour value. `Nothing` is an id that no gear has: a slip in the program that asks.
+/// `Incapable` is an id that this gear's capabilities exclude: it is built so. Neither is a wiring fault.
 pub fn ask(file: &[u8], step: Step) -> Answer {
     let mut detail = 0;
     let Step(kind, a, b, c) = step;
@@ -143,6 +197,7 @@ pub fn ask(file: &[u8], step: Step) -> Answer {
         DONE => Answer::Done,
         VALUE => Answer::Value(detail as u16),
         NOTHING => Answer::Nothing,
+        INCAPABLE => Answer::Incapable(Capability::of(detail)),
         number => Answer::Refused(Refusal::of(number, detail)),
     }
 }

@@ -1,5 +1,6 @@
 //! The answer to a call, and its four bytes in a list.
 
+use crate::absent::{capability_name, Absence, Capability};
 use crate::kinds::Outcome;
 
 pub const ANSWER_LEN: usize = 4;
@@ -11,6 +12,8 @@ pub enum Answer {
     Bool(bool),
     None,
     Refused(u8),
+    /// A colour value that other gears have: what this one lacks.
+    NotCapable(Capability),
 }
 
 /// Document 01, "Numbers given back on refusal".
@@ -28,17 +31,22 @@ impl Answer {
             Answer::Bool(value) => (1, value.into()),
             Answer::None => (2, 0),
             Answer::Refused(number) => (3, number.into()),
+            Answer::NotCapable(lacking) => (4, lacking.number()),
         };
         let [high, low] = value.to_be_bytes();
         [tag, high, low, 0]
     }
 
     pub fn of_byte(value: Option<u8>) -> Self {
-        Answer::of_word(value.map(u16::from))
+        value.map_or(Answer::None, |byte| Answer::Value(byte.into()))
     }
 
-    pub fn of_word(value: Option<u16>) -> Self {
-        value.map_or(Answer::None, Answer::Value)
+    /// Document 02, 2: an unknown id is still none.
+    pub fn of_absence(absence: Absence) -> Self {
+        match absence {
+            Absence::UnknownId => Answer::None,
+            Absence::NotCapable(lacking) => Answer::NotCapable(lacking),
+        }
     }
 
     pub fn outcome(self) -> Outcome {
@@ -49,6 +57,7 @@ impl Answer {
             Answer::Bool(true) => Outcome::Yes,
             Answer::None => Outcome::None,
             Answer::Refused(_) => Outcome::Refused,
+            Answer::NotCapable(_) => Outcome::NotCapable,
         }
     }
 }
@@ -67,6 +76,7 @@ pub fn write_bytes(f: &mut impl std::fmt::Write, bytes: [u8; ANSWER_LEN]) -> std
         1 => write!(f, "value {value}"),
         2 => write!(f, "none"),
         3 => write!(f, "refused {value}"),
+        4 => write!(f, "not capable {value} ({})", capability_name(value)),
         tag => write!(f, "unknown tag {tag}"),
     }
 }

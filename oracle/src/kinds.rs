@@ -32,6 +32,7 @@ pub enum Outcome {
     Yes,
     None,
     Refused,
+    NotCapable,
 }
 
 pub type Arguments = &'static [(&'static str, Form)];
@@ -101,7 +102,7 @@ pub const PLACE_BANK_BYTE: u8 = 74;
 pub const PLACE_MARKS: u8 = 75;
 
 use Form::{Byte, Bytes, Flag, Number, Setting, Word};
-use Outcome::{Done, No, Refused, Value, Yes};
+use Outcome::{Done, No, NotCapable, Refused, Value, Yes};
 
 const NOTHING: Arguments = &[];
 const BANK_AND_OFFSET: Arguments = &[("bank", Byte), ("offset", Byte)];
@@ -159,7 +160,7 @@ pub const KINDS: &[Kind] = &[
     kind(STORE_TC_LIMIT, "store_tc_limit", &[("selector", Byte), ("value", Word)], DONE),
     kind(STAGE, "stage", &[("colour", Setting)], DONE),
     kind(ACTIVATE, "activate_pending_color", NOTHING, DONE),
-    kind(COLOUR_VALUE, "color_value", &[("id", Byte)], OPTIONAL),
+    kind(COLOUR_VALUE, "color_value", &[("id", Byte)], &[Value, Outcome::None, NotCapable]),
     kind(COPY_REPORT, "copy_report_to_temporary", NOTHING, DONE),
     kind(COLOUR_STATUS, "dt8_colour_status", NOTHING, VALUE),
     kind(COLOUR_FEATURES, "dt8_features", NOTHING, VALUE),

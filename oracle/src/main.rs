@@ -17,6 +17,7 @@ mod luminaire;
 #[path = "../standins/metering.rs"]
 mod metering;
 
+mod absent;
 mod answer;
 mod call;
 mod calls;
@@ -57,7 +58,8 @@ format of a list is in oracle/FORMAT.md, that of a session file in document 01.
   oracle coverage [--summary]    read a list, count what it reaches; status 1 where something is missed
 
   oracle session                 read a session file, write document 01's lines for it, as its program does:
-                                 a line for each step and the end, or only 'bad' and the offset (status 0)
+                                 a line for each step and the end, or only 'bad' and the offset (status 0).
+                                 A colour value that the gear is not capable of is '~' (document 02)
   oracle session --framed        read many session files, write the lines of each. Framed: before each file,
                                  and before its lines, stands their length in 4 bytes, high byte first
   oracle session --calls         read a session file, write its list of calls, for 'oracle show': call 1 is
@@ -65,7 +67,8 @@ format of a list is in oracle/FORMAT.md, that of a session file in document 01.
   oracle sessions SEED COUNT     write COUNT session files made from the seed, framed. Nearly half are well
                                  formed: 0 to 4,096 steps, whose bytes fit the record that they meet. The
                                  others are cut off (short files after each byte in turn), have fields out
-                                 of range, bytes too many, two faults or more, or consist of any bytes
+                                 of range, bytes too many, two faults or more, or consist of any bytes.
+                                 Every hundredth asks for all colour value ids
   oracle reach [--summary]       read framed session files, count what they reach: faults, lengths, profiles,
                                  steps, answers; status 1 where something is missed
 

@@ -1,5 +1,6 @@
 //! Performing a call on the Rust gear: one line of Rust for each kind.
 
+use crate::absent::{absence, Absence, Capability};
 use crate::answer::{Answer, BYTE_NOT_IN_TABLE, GROUP_ABOVE_15, PROFILE_NOT_ACCEPTED};
 use crate::call::Call;
 use crate::fit::unfit;
@@ -84,10 +85,41 @@ fn colour(gear: &mut Gear, call: &Call) -> Answer {
         STORE_TC_LIMIT => gear.store_tc_limit(call.word(2), call.byte(1)),
         STAGE => gear.stage(&call.setting(1)),
         ACTIVATE => gear.activate_pending_color(),
-        COLOUR_VALUE => return Answer::of_word(gear.color_value(call.byte(1))),
+        COLOUR_VALUE => return colour_value(gear, call.byte(1)),
         _ => gear.copy_report_to_temporary(),
     }
     Answer::Done
+}
+
+/// The value is the Rust's. Why there is none is the table's (document 02, 2), and the Rust has to bear it out.
+fn colour_value(gear: &mut Gear, id: u8) -> Answer {
+    match (gear.color_value(id), absence(id, &gear.spec)) {
+        (Some(value), None) => Answer::Value(value),
+        (None, Some(why)) => {
+            assert!(bears_out(gear, id, why), "colour value {id} is absent, but not for the table's reason: {why:?}");
+            Answer::of_absence(why)
+        }
+        (Some(value), Some(why)) => panic!("colour value {id} is {value}, but the table has it absent: {why:?}"),
+        (None, None) => panic!("colour value {id} is absent, but the table has no reason"),
+    }
+}
+
+/// An unknown id has no value on a gear that is capable of everything either. Any other has one on this gear, once it
+/// is capable of what it lacks.
+fn bears_out(gear: &mut Gear, id: u8, why: Absence) -> bool {
+    match why {
+        Absence::UnknownId => !has_value_with(&Capability::ALL, gear, id),
+        Absence::NotCapable(lacking) => has_value_with(&[lacking], gear, id),
+    }
+}
+
+/// Whether the gear would have a value if it were capable of these too.
+fn has_value_with(capabilities: &[Capability], gear: &mut Gear, id: u8) -> bool {
+    let spec = gear.spec.clone();
+    capabilities.iter().for_each(|capability| capability.give(&mut gear.spec));
+    let value = gear.color_value(id);
+    gear.spec = spec;
+    value.is_some()
 }
 
 fn colour_reads(gear: &mut Gear, call: &Call) -> Answer {

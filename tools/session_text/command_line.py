@@ -1,9 +1,10 @@
-"""The commands pack, show and words, their help, and what they say on an error."""
+"""The commands pack, show, beside and words, their help, and what they say on an error."""
 import argparse
 import signal
 import sys
 
 from . import text
+from .beside import beside
 from .language import LANGUAGE, word_list
 from .line import TextError
 from .session import BUFFER, Malformed
@@ -36,15 +37,32 @@ def parser():
     one = commands.add_parser("show", help=show, description=f"{show}.", epilog=more + STATUS, **form)
     one.add_argument("file", **file)
 
-    words = "lists every name of a write, a query and a colour value, with its byte"
+    both = "writes the lines that the program session printed for a session file, with its steps beside them"
+    more = "Where a line is '~', it also says what the gear lacks. A malformed file has no steps, only its one line."
+    one = commands.add_parser("beside", help=both, description=f"{both}.", epilog=more, **form)
+    one.add_argument("file", metavar="FILE", help="the session file")
+    one.add_argument("lines", metavar="LINES", help="what the program printed for it")
+
+    words = "lists every name of a write, a query and a colour value, with its byte and what a value needs of a gear"
     commands.add_parser("words", help=words, description=f"{words}.", **form)
     return whole
 
 
-def content(file, most):
+class Unread(Exception):
+    """A file that can't be read, and why."""
+
+
+def called(file):
+    return "standard input" if file == "-" else file
+
+
+def content(file, most=-1):
     """What a file holds; 'most' is as many bytes as can matter, -1 for all."""
-    with open(0 if file == "-" else file, "rb", closefd=file != "-") as opened:
-        return opened.read(most)
+    try:
+        with open(0 if file == "-" else file, "rb", closefd=file != "-") as opened:
+            return opened.read(most)
+    except OSError as error:
+        raise Unread(f"{called(file)} can't be read: {error.strerror}") from None
 
 
 def made(wanted):
@@ -52,7 +70,9 @@ def made(wanted):
     if wanted.command == "words":
         return word_list().encode()
     if wanted.command == "pack":
-        return text.pack(content(wanted.file, -1))
+        return text.pack(content(wanted.file))
+    if wanted.command == "beside":
+        return beside(content(wanted.file, BUFFER), content(wanted.lines)).encode()
     return text.show(content(wanted.file, BUFFER)).encode()
 
 
@@ -64,13 +84,12 @@ def stop(status, message):
 def main():
     signal.signal(signal.SIGPIPE, signal.SIG_DFL)  # a reader that has seen enough, as 'head', is no error
     wanted = parser().parse_args()
-    where = "standard input" if getattr(wanted, "file", "-") == "-" else wanted.file
     try:
         output = made(wanted)
     except (TextError, Malformed) as error:
-        return stop(1, f"{where}, {error}")
-    except OSError as error:
-        return stop(2, f"{where} can't be read: {error.strerror}")
+        return stop(1, f"{called(wanted.file)}, {error}")
+    except Unread as error:
+        return stop(2, error)
     try:
         with open(1, "wb", closefd=False) as opened:
             opened.write(output)

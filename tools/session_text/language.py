@@ -1,5 +1,5 @@
 """The language of a text and its names, as the help shows them."""
-from .names import COLOUR_VALUES, QUERIES, ROW, STORES_DTR0, WRITES
+from .names import COLOUR_VALUES, NEEDS, QUERIES, ROW, STORES_DTR0, WRITES
 
 LANGUAGE = """\
 The text of a session is the profile of a gear and then the steps to run on it, one a line. A comment goes from
@@ -21,7 +21,8 @@ The text of a session is the profile of a gear and then the steps to run on it, 
   query NAME [INDEX]          a command that asks something
   read BANK OFFSET            what the memory has there
   write-memory BANK OFFSET VALUE
-  colour-value NAME|ID        a number of the active, the staged or the reported colour, or a Tc limit
+  colour-value NAME|ID        a number of the active, the staged or the reported colour, or a Tc limit; prints ~
+                              where this gear can't have the value, and - where no gear has the id
   tc-limit WHICH TC           stores a limit: coolest, warmest, physical-coolest, physical-warmest, or a
                               selector's number
   tc-step cooler|warmer       moves the active Tc by one
@@ -48,17 +49,22 @@ A text of 'bytes' lines alone is a file byte by byte, two hex digits each, and m
 
 
 def command_lines(first, commands, with_value):
-    """Each command as a line begins with it, and its byte, or its sixteen."""
-    for name, byte in commands.bytes.items():
+    """Each command as a line begins with it, and its byte, or its sixteen; in the order of the bytes."""
+    for name, byte in sorted(commands.bytes.items(), key=lambda item: item[1]):
         words = [first, name]
         words += [commands.indexed[name].upper()] if name in commands.indexed else []
         words += ["VALUE"] if name in with_value else []
-        yield " ".join(words), byte, byte + ROW - 1 if name in commands.indexed else byte
+        last = f"..{byte + ROW - 1}" if name in commands.indexed else ""
+        yield f"{' '.join(words):<36}{byte}{last}"
+
+
+def colour_value_lines():
+    """Each colour value as a line begins with it, its id, and what a gear needs for it."""
+    for name, value in COLOUR_VALUES.items():
+        yield f"{f'colour-value {name}':<36}{value:<5}needs {NEEDS[value]}"
 
 
 def word_list():
     """Every name that stands for a byte."""
-    lines = sorted(command_lines("write", WRITES, STORES_DTR0), key=lambda line: line[1])
-    lines += sorted(command_lines("query", QUERIES, ()), key=lambda line: line[1])
-    lines += [(f"colour-value {name}", byte, byte) for name, byte in COLOUR_VALUES.items()]
-    return "".join(f"{words:<36}{low}{f'..{high}' if high > low else ''}\n" for words, low, high in lines)
+    writes, queries = command_lines("write", WRITES, STORES_DTR0), command_lines("query", QUERIES, ())
+    return "".join(line + "\n" for line in [*writes, *queries, *colour_value_lines()])

@@ -1,4 +1,5 @@
-"""The names that stand for bytes: commands (document 01, 'Command bytes'), Tc limits and colour values."""
+"""The names that stand for bytes: commands (document 01, 'Command bytes'), Tc limits and colour values; and what a
+gear needs for a colour value."""
 
 ROW = 16  # the bytes of a command for sixteen scenes or groups stand in a row
 
@@ -90,18 +91,30 @@ TC_LIMITS = {"coolest": 0, "warmest": 1, "physical-coolest": 2, "physical-warmes
 TC_STEPS = {"cooler": 0, "warmer": 1}
 
 
+# What a gear may need for a colour value. One that lacks it can't have the value, and this is said of it.
+XY, TC, CHANNEL, NOTHING = "xy", "Tc", "a channel", "nothing"
+LACKS = {
+    XY: "this gear has no xy colour",
+    TC: "this gear has no colour temperature",
+    CHANNEL: "this gear has no colour channels",
+}
+
+
 def colour_values():
-    """Part 209's ids: the active colour's from 0, the staged one's from 192 and the report's from 224, alike."""
-    own = {"x": 0, "y": 1, "tc": 2}
+    """Part 209's ids, each with what it needs: the active colour's from 0, the staged one's from 192 and the report's
+    from 224, alike."""
+    own = {"x": (0, XY), "y": (1, XY), "tc": (2, TC)}
     channels = ("red", "green", "blue", "white", "amber", "freecolour", "control")
-    own.update({name: 9 + place for place, name in enumerate(channels)})
-    ids = dict(own)
-    ids.update({"primary-count": 82})
-    ids.update({"coolest": 128, "physical-coolest": 129, "warmest": 130, "physical-warmest": 131})
+    own.update({name: (9 + place, CHANNEL) for place, name in enumerate(channels)})
+    values = dict(own)
+    values["primary-count"] = (82, NOTHING)
+    limits = ("coolest", "physical-coolest", "warmest", "physical-warmest")
+    values.update({name: (128 + place, TC) for place, name in enumerate(limits)})
     for part, first in (("staged", 192), ("report", 224)):
-        ids.update({f"{part}-{name}": first + value for name, value in own.items()})
-        ids[f"{part}-type"] = first + 16
-    return ids
+        values.update({f"{part}-{name}": (first + place, need) for name, (place, need) in own.items()})
+        values[f"{part}-type"] = (first + 16, NOTHING)
+    return values
 
 
-COLOUR_VALUES = colour_values()
+COLOUR_VALUES = {name: value for name, (value, _) in colour_values().items()}
+NEEDS = dict(colour_values().values())  # by id

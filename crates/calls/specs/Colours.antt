@@ -8,7 +8,7 @@ use Rattle.colour.specs.Record.{withFeatures}
 use Rattle.colour.specs.Staging.{copyReport, loadTemporariesFrom}
 use Rattle.colour.specs.Steps.{storeTcLimit, tcStep, xyStep}
 use Rattle.colour.specs.Value.{colorValue, colourStatus, controlByte, features}
-use Rattle.gear.specs.Answer.{done, flag, valueAnswer}
+use Rattle.gear.specs.Answer.{done, flag, unexplained, valueAnswer}
 use Rattle.gear.specs.declared.answer.Answer.{Answer}
 use Rattle.gear.specs.declared.answer.Answer.the-variants.{Value}
 use Rattle.gear.specs.declared.answer.Outcome.{Outcome}
@@ -52,8 +52,9 @@ colourStatusCall g = tell g (Value (colourStatus (g .colour)))
 unfoldable pub featuresCall : Gear → Answer
 featuresCall g = tell g (Value (features (g .colour)))
 
+-- a query of the bus: a gear without channels has no answer to it
 unfoldable pub controlCall : Gear → Answer
-controlCall g = tell g (valueAnswer (controlByte (g .colour)))
+controlCall g = tell g (unexplained (valueAnswer (controlByte (g .colour))))
 
 unfoldable pub featureByteCall : Gear → Answer
 featureByteCall g = tell g (Value (g .colour .features))

@@ -18,6 +18,7 @@ use gear::answer::Refusal;
 use gear::answer::done;
 use gear::answer::flag;
 use gear::answer::refused;
+use gear::answer::unexplained;
 use gear::answer::value_answer;
 use gear::record::Gear;
 use gear::serve::tell;
@@ -128,11 +129,12 @@ pub fn dt8_features(gear: Gear) -> Answer
     tell(gear, Answer::Value(features as u16))
 }
 
+// Part 209's query 251, which a gear without channels does not answer.
 pub fn rgbwaf_control_byte(gear: Gear) -> Answer
     ensures { λ r. ⌜ r ≡ controlCall gear ⌝ }
 {
     let colour = gear.colour;
-    tell(gear, value_answer(control_of(colour)))
+    tell(gear, unexplained(value_answer(control_of(colour))))
 }
 
 pub fn gear_features_byte(gear: Gear) -> Answer

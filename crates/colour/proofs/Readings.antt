@@ -1,12 +1,11 @@
 -- The readings of document 01 that are about colour alone: P5, P6 and P7.
 use Prim.Native.Nat.{ℕ}
 use mathlib.Core.Path.{_≡_, refl}
-use mathlib.Core.Bool.{Bool, true, false}
+use mathlib.Core.Bool.{true, false}
 use lib.ListN.{replicate}
-use Rattle.colour.specs.declared.record.Capabilities.{Capabilities}
 use Rattle.colour.specs.declared.record.Colour.{Colour}
 use Rattle.colour.specs.declared.setting.ColourSetting.{ColourSetting}
-use Rattle.colour.specs.declared.value.ColourValue.the-variants.{Value, Nothing}
+use Rattle.colour.specs.declared.value.ColourValue.the-variants.{Value, Unknown}
 use Rattle.colour.specs.Activation.{activated, strays, unlinked, chosen, activate}
 use Rattle.colour.specs.Limits.{effectiveCoolest, effectiveWarmest, storeCoolest, storeWarmest, storePhysical, storeLimit}
 use Rattle.colour.specs.Record.{fresh}
@@ -49,11 +48,11 @@ p6 = (refl, refl, refl, refl, refl)
 -- P7: what ids 63, 64, 81, 82, 83 and 127 show, on every record
 pub p7 :
     (c : Colour) →
-    (colorValue c 63 ≡ Nothing) ×
+    (colorValue c 63 ≡ Unknown) ×
     (colorValue c 64 ≡ Value 65535) ×
     (colorValue c 81 ≡ Value 65535) ×
     (colorValue c 82 ≡ Value 0) ×
-    (colorValue c 83 ≡ Nothing) ×
-    (colorValue c 127 ≡ Nothing)
+    (colorValue c 83 ≡ Unknown) ×
+    (colorValue c 127 ≡ Unknown)
 unfolding kindOf colorValue
 p7 c = (refl, refl, refl, refl, refl, refl)

@@ -1,5 +1,6 @@
 pub mod Activation
 pub mod Bounded
+pub mod Capability
 pub mod Kinds
 pub mod Limits
 pub mod Record

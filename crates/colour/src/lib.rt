@@ -2,6 +2,7 @@
 // No function asks anything of its arguments: crossed limits, unknown type bytes and numbers left over have an answer.
 pub mod activation;
 mod bounded;
+pub mod capability;
 mod kinds;
 pub mod limits;
 pub mod record;

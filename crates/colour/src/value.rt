@@ -1,4 +1,5 @@
 // What can be read of a colour: colour values by id, status, features and control.
+use crate::capability::Capability;
 use crate::kinds::ACTIVE;
 use crate::kinds::LIMIT;
 use crate::kinds::PRIMARIES;
@@ -14,9 +15,11 @@ use crate::tint::ColorMode;
 ghost use mathlib.Core.Path.{_≡_};
 ghost use Rattle.colour.specs.Value.{channelLevel, ifCapable, ownOr, shown, limitValue, colorValue, colourStatus, features, controlByte};
 
+// A number; or why there is none: no gear has the id, or this gear lacks what the id needs.
 pub enum ColourValue {
     Value(u16),
-    Nothing,
+    Unknown,
+    Incapable(Capability),
 }
 
 // A channel's level; a channel that the gear lacks has the mask.
@@ -34,13 +37,13 @@ fn channel_level(levels: [u8; 6], channel: u8, channels: u8) -> u16
 }
 
 // A value that only some gears have.
-fn if_capable(can: bool, value: u16) -> ColourValue
-    ensures { λ r. ⌜ r ≡ ifCapable can value ⌝ }
+fn if_capable(can: Capabilities, need: Capability, value: u16) -> ColourValue
+    ensures { λ r. ⌜ r ≡ ifCapable can need value ⌝ }
 {
-    if can {
+    if need.is_had(can) {
         return ColourValue::Value(value);
     }
-    ColourValue::Nothing
+    ColourValue::Incapable(need)
 }
 
 // A number that only one type of colour has; a colour of another type shows the mask.
@@ -60,31 +63,35 @@ fn shown(can: Capabilities, setting: ColourSetting, place: u8) -> ColourValue
 {
     let kind = setting.kind;
     let levels = setting.levels;
-    let rgb = 0 < can.channels;
     if place == 0 {
-        return if_capable(can.xy, own_or(kind, ColourSetting::XY, setting.x, 0xFFFF));
+        let x = own_or(kind, ColourSetting::XY, setting.x, 0xFFFF);
+        return if_capable(can, Capability::Xy, x);
     }
     if place == 1 {
-        return if_capable(can.xy, own_or(kind, ColourSetting::XY, setting.y, 0xFFFF));
+        let y = own_or(kind, ColourSetting::XY, setting.y, 0xFFFF);
+        return if_capable(can, Capability::Xy, y);
     }
     if place == 2 {
-        return if_capable(can.tc, own_or(kind, ColourSetting::TC, setting.tc, 0xFFFF));
+        let tc = own_or(kind, ColourSetting::TC, setting.tc, 0xFFFF);
+        return if_capable(can, Capability::Tc, tc);
     }
     if place < 9 {
-        return ColourValue::Nothing;
+        return ColourValue::Unknown;
     }
     if place < 15 {
-        let level = channel_level(levels, place - 9, can.channels);
-        return if_capable(rgb, own_or(kind, ColourSetting::RGBWAF, level, 0xFF));
+        let channel = channel_level(levels, place - 9, can.channels);
+        let level = own_or(kind, ColourSetting::RGBWAF, channel, 0xFF);
+        return if_capable(can, Capability::Channels, level);
     }
     if place == 15 {
-        let control = setting.control as u16;
-        return if_capable(rgb, own_or(kind, ColourSetting::RGBWAF, control, 0xFF));
+        let control = own_or(kind, ColourSetting::RGBWAF, setting.control as u16, 0xFF);
+        return if_capable(can, Capability::Channels, control);
     }
     if place == 16 {
-        return ColourValue::Value(kind as u16);
+        let number = kind as u16;
+        return ColourValue::Value(number);
     }
-    ColourValue::Nothing
+    ColourValue::Unknown
 }
 
 // The four Tc limits, in the order of their ids.
@@ -92,15 +99,15 @@ fn limit_value(can: Capabilities, limits: Limits, place: u8) -> ColourValue
     ensures { λ r. ⌜ r ≡ limitValue can limits place ⌝ }
 {
     if place == 0 {
-        return if_capable(can.tc, limits.stored.coolest);
+        return if_capable(can, Capability::Tc, limits.stored.coolest);
     }
     if place == 1 {
-        return if_capable(can.tc, limits.physical.coolest);
+        return if_capable(can, Capability::Tc, limits.physical.coolest);
     }
     if place == 2 {
-        return if_capable(can.tc, limits.stored.warmest);
+        return if_capable(can, Capability::Tc, limits.stored.warmest);
     }
-    if_capable(can.tc, limits.physical.warmest)
+    if_capable(can, Capability::Tc, limits.physical.warmest)
 }
 
 // Part 209, table 11.
@@ -130,7 +137,7 @@ pub fn color_value(colour: Colour, id: u8) -> ColourValue
     if kind == REPORT {
         return shown(can, report, place);
     }
-    ColourValue::Nothing
+    ColourValue::Unknown
 }
 
 // Bits 4, 5 and 7: the active mode; bit 1: an active colour temperature was out of range.
@@ -164,11 +171,13 @@ pub fn dt8_features(colour: Colour) -> u8
     channels
 }
 
+// A gear without channels has no such byte.
 pub fn rgbwaf_control_byte(colour: Colour) -> ColourValue
     ensures { λ r. ⌜ r ≡ controlByte colour ⌝ }
 {
+    let can = colour.can;
     let active = colour.active;
-    if_capable(0 < colour.can.channels, active.control as u16)
+    if_capable(can, Capability::Channels, active.control as u16)
 }
 
 pub fn gear_features_byte(colour: Colour) -> u8

@@ -1,8 +1,9 @@
 -- Answers as a host sees them: a code, and a number beside it. The codes 1 to 5 are document 01's refusals.
 use Prim.Native.Nat.{ℕ}
+use Rattle.colour.specs.Capability.{capabilityNumber}
 use Rattle.gear.specs.Answer.{refusalNumber}
 use Rattle.gear.specs.declared.answer.Answer.{Answer}
-use Rattle.gear.specs.declared.answer.Answer.the-variants.{Done, Value, Nothing, Refused}
+use Rattle.gear.specs.declared.answer.Answer.the-variants.{Done, Value, Nothing, Incapable, Refused}
 use Rattle.file.specs.declared.Verdict.{Verdict}
 use Rattle.file.specs.declared.Verdict.the-variants.{Good, Bad}
 use Rattle.runner.specs.declared.ask.Asked.{Asked}
@@ -32,12 +33,14 @@ unfoldable pub answerCode : Answer → ℕ
 answerCode Done = 0
 answerCode (Value value) = 16
 answerCode Nothing = 17
+answerCode (Incapable need) = 19
 answerCode (Refused r) = refusalNumber r
 
 unfoldable pub answerDetail : Answer → ℕ
 answerDetail Done = 0
 answerDetail (Value value) = value
 answerDetail Nothing = 0
+answerDetail (Incapable need) = capabilityNumber need
 answerDetail (Refused r) = 0
 
 unfoldable pub askedCode : Asked → ℕ

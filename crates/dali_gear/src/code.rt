@@ -17,6 +17,8 @@ const NOTHING: u32 = 17;
 
 const SHORT: u32 = 18;
 
+const INCAPABLE: u32 = 19;
+
 pub fn verdict_code(verdict: Verdict) -> u32
     ensures { λ r. ⌜ r ≡ verdictCode verdict ⌝ }
 {
@@ -62,6 +64,7 @@ fn answer_code(answer: Answer) -> u32
         Answer::Done => DONE,
         Answer::Value(_) => VALUE,
         Answer::Nothing => NOTHING,
+        Answer::Incapable(_) => INCAPABLE,
         Answer::Refused(refusal) => {
             let number = refusal.number();
             number as u32
@@ -76,6 +79,10 @@ fn answer_detail(answer: Answer) -> usize
         Answer::Done => 0,
         Answer::Value(value) => value as usize,
         Answer::Nothing => 0,
+        Answer::Incapable(need) => {
+            let number = need.number();
+            number as usize
+        }
         Answer::Refused(_) => 0,
     }
 }

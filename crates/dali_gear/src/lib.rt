@@ -59,7 +59,8 @@ pub extern "C" fn dali_gear_report(file: &[u8], out: &mut [u8], detail: &mut usi
     ran_code(ran)
 }
 
-// One more step on the record that the file's steps leave. The detail is the value, or the offset of a malformed file's lowest fault.
+// One more step on the record that the file's steps leave. The detail is the value, the number of what the gear lacks for it, or the
+// offset of a malformed file's lowest fault.
 #[no_mangle]
 pub extern "C" fn dali_gear_ask(
     file: &[u8],

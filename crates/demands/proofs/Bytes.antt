@@ -46,11 +46,11 @@ query-low b h = same-eq (isQuery b) (listed queryBytes b) (at query-agrees (repl
 
 -- ## From 256 on: no range reaches there, and no rule
 
-abbrev ends : List (ℕ × ℕ) → Bool
+abbrev pub ends : List (ℕ × ℕ) → Bool
 ends [] = true
 ends (range ∷ ranges) = both (leb (range .1) 255) (ends ranges)
 
-unlisted : (ranges : List (ℕ × ℕ)) (b : ℕ) → ends ranges ≡ true → 256 ≤ b → listed ranges b ≡ false
+pub unlisted : (ranges : List (ℕ × ℕ)) (b : ℕ) → ends ranges ≡ true → 256 ≤ b → listed ranges b ≡ false
 unlisted [] b e h = refl
 unlisted (range ∷ ranges) b e h =
     let last = leb-true (range .1) 255 (both-left (leb (range .1) 255) (ends ranges) e) in

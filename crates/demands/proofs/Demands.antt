@@ -1,9 +1,11 @@
 -- The statements of specs/Demands, proved.
 use mathlib.Core.Path.{subst, sym, fun-ext}
+use Rattle.demands.specs.Absent.{Absent}
 use Rattle.demands.specs.Calls.{Behaviour, Call, perform}
 use Rattle.demands.specs.Demands.{Demanded, Demands}
 use Rattle.demands.specs.LastOffset.{LastOffset}
 use Rattle.demands.specs.Promises.{Promised}
+use Rattle.demands.proofs.Absent.{absent, host-absent}
 use Rattle.demands.proofs.Blind.{keeps-blind}
 use Rattle.demands.proofs.Exactly.{exactly}
 use Rattle.demands.proofs.Fit.{accepted-exactly, fit-exactly}
@@ -43,6 +45,9 @@ promised-demanded = by-promise Demanded rules-demanded
 pub promised-last-offset : (f : Behaviour) → ((c : Call) (g : Gear) → Promised c g (f c g)) → LastOffset f
 promised-last-offset = by-promise LastOffset last-offset
 
+pub promised-absent : (f : Behaviour) → ((c : Call) (g : Gear) → Promised c g (f c g)) → Absent f
+promised-absent = by-promise Absent absent
+
 pub demands : Demands
 demands =
     record {
@@ -57,6 +62,7 @@ demands =
             sessions = sessions;
             impostors = caught;
             last-offset = last-offset;
+            absent = absent;
           };
       by-the-promises =
           record {
@@ -68,5 +74,7 @@ demands =
             host = host;
             last-offset = promised-last-offset;
             bank-reads = bank-reads;
+            absent = promised-absent;
+            host-absent = host-absent;
           };
     }

@@ -16,7 +16,7 @@ use Rattle.demands.proofs.ProfileAndFile.{file-judged}
 use Rattle.demands.proofs.Steps.{stepped}
 use Rattle.file.specs.File.{byte, checked, wellFormed}
 use Rattle.gear.specs.declared.answer.Answer.{Answer}
-use Rattle.gear.specs.declared.answer.Answer.the-variants.{Done, Value, Nothing, Refused}
+use Rattle.gear.specs.declared.answer.Answer.the-variants.{Done, Value, Nothing, Incapable, Refused}
 use Rattle.gear.specs.declared.answer.Outcome.{Outcome}
 use Rattle.gear.specs.declared.answer.Refusal.{Refusal}
 use Rattle.gear.specs.declared.answer.Refusal.the-variants.{Profile, Unfit, Byte, Group, File}
@@ -36,6 +36,7 @@ unfolding answerCode
 five-file Done e = absurd (omega arith)
 five-file (Value n) e = absurd (omega arith)
 five-file Nothing e = absurd (omega arith)
+five-file (Incapable need) e = absurd (omega arith)
 five-file (Refused Profile) e = absurd (omega arith)
 five-file (Refused Unfit) e = absurd (omega arith)
 five-file (Refused Byte) e = absurd (omega arith)
@@ -60,6 +61,7 @@ unfolding answerCode
 code-refused Done h l = absurd (omega arith)
 code-refused (Value n) h l = absurd (omega arith)
 code-refused Nothing h l = absurd (omega arith)
+code-refused (Incapable need) h l = absurd (omega arith)
 code-refused (Refused r) h l = (r, refl)
 
 code-three : (a : Answer) (r : Refusal) → a ≡ Refused r → r ≡ Byte → answerCode a ≡ 3

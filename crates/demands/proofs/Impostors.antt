@@ -13,7 +13,7 @@ use Rattle.demands.specs.Table.{RowsOf, led, numbered, table}
 use Rattle.demands.proofs.Readings.{readings}
 use Rattle.gear.proofs.Built.{fresh-fit}
 use Rattle.gear.specs.declared.answer.Answer.{Answer}
-use Rattle.gear.specs.declared.answer.Answer.the-variants.{Done, Value, Nothing, Refused}
+use Rattle.gear.specs.declared.answer.Answer.the-variants.{Done, Value, Nothing, Incapable, Refused}
 use Rattle.gear.specs.Profile.{accepted, shortFit, unitFit}
 use Rattle.gear.specs.Record.{freshGear, newGear}
 use Rattle.numbers.proofs.Logic.{by-cases, no-false}
@@ -35,6 +35,7 @@ unfolding zeroed
 never-more Done n e = let z : _≡_ {A = ℕ} 0 1 = cc in omega arith
 never-more (Value m) n e = let z : _≡_ {A = ℕ} 0 (suc n) = cc in omega arith
 never-more Nothing n e = let z : _≡_ {A = ℕ} 0 (suc n) = cc in omega arith
+never-more (Incapable need) n e = let z : _≡_ {A = ℕ} 0 (suc n) = cc in omega arith
 never-more (Refused r) n e = let z : _≡_ {A = ℕ} 0 1 = cc in omega arith
 
 -- the rows of one reading hold where all of them do

@@ -2,6 +2,7 @@
 use Rattle.demands.specs.Outcome.{OneOutcome}
 use Rattle.demands.proofs.Outcome.{determined}
 use Rattle.colour.proofs.activation
+use Rattle.colour.proofs.capability
 use Rattle.colour.proofs.record
 use Rattle.colour.proofs.report
 use Rattle.colour.proofs.setting
@@ -21,6 +22,9 @@ pub «activation::arc_power_activation» : OneOutcome activation.arc_power_activ
 
 pub «activation::recall» : OneOutcome activation.recall.Reads.Post
 «activation::recall» κs args r r′ e e′ = determined
+
+pub «capability::Capability::number» : OneOutcome capability.Capability.number.Reads.Post
+«capability::Capability::number» κs args r r′ e e′ = determined
 
 pub «record::Colour::fresh» : OneOutcome record.Colour.fresh.Reads.Post
 «record::Colour::fresh» κs args r r′ e e′ = determined

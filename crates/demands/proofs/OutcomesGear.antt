@@ -26,6 +26,9 @@ pub «answer::refused» : OneOutcome answer.refused.Reads.Post
 pub «answer::value_answer» : OneOutcome answer.value_answer.Reads.Post
 «answer::value_answer» κs args r r′ e e′ = determined
 
+pub «answer::unexplained» : OneOutcome answer.unexplained.Reads.Post
+«answer::unexplained» κs args r r′ e e′ = determined
+
 pub «answer::location_answer» : OneOutcome answer.location_answer.Reads.Post
 «answer::location_answer» κs args r r′ e e′ = determined
 

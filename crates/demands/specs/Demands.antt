@@ -4,6 +4,7 @@ use mathlib.Core.Path.{_≡_}
 use mathlib.Core.Bool.{true}
 use mathlib.Core.Logic.{_↔_}
 use mathlib.Core.Option.{none}
+use Rattle.demands.specs.Absent.{Absent, HostAbsent}
 use Rattle.demands.specs.Blind.{KeepsBlind}
 use Rattle.demands.specs.Calls.{Behaviour, Call, perform}
 use Rattle.demands.specs.Fit.{Accepted, Fit}
@@ -54,8 +55,9 @@ pub record ByTheRules : Type 0 where
   pub sessions : Sessions
   -- the impostors of document 01 that take a record; the fifth is a runner, among the sessions
   pub impostors : Caught
-  -- request 6 of document 02
+  -- requests 6 and 2 of document 02
   pub last-offset : LastOffset perform
+  pub absent : Absent perform
 
 -- The Rattle functions, by their own promises alone
 pub record ByThePromises : Type 1 where
@@ -71,6 +73,9 @@ pub record ByThePromises : Type 1 where
   -- request 6 of document 02; and of the read of the bank library
   pub last-offset : (f : Behaviour) → ((c : Call) (g : Gear) → Promised c g (f c g)) → LastOffset f
   pub bank-reads : BankReads
+  -- request 2; and of what a host is told by its library
+  pub absent : (f : Behaviour) → ((c : Call) (g : Gear) → Promised c g (f c g)) → Absent f
+  pub host-absent : HostAbsent
 
 pub record Demands : Type 1 where
   pub by-the-rules : ByTheRules

@@ -9,7 +9,7 @@ use Rattle.demands.specs.Refusals.{RefusesExactly}
 use Rattle.demands.specs.Table.{RowsOf}
 use Rattle.gear.specs.Answer.{refused}
 use Rattle.gear.specs.declared.answer.Answer.{Answer}
-use Rattle.gear.specs.declared.answer.Answer.the-variants.{Done, Value, Nothing, Refused}
+use Rattle.gear.specs.declared.answer.Answer.the-variants.{Done, Value, Nothing, Incapable, Refused}
 use Rattle.gear.specs.declared.answer.Outcome.{Outcome}
 use Rattle.gear.specs.declared.answer.Refusal.{Refusal}
 use Rattle.gear.specs.declared.record.Gear.{Gear}
@@ -24,6 +24,7 @@ unfoldable pub zeroed : Answer → Answer
 zeroed Done = Done
 zeroed (Value n) = Value 0
 zeroed Nothing = Value 0
+zeroed (Incapable need) = Value 0
 zeroed (Refused r) = Refused r
 
 abbrev pub answersZero : (Call → Gear → Gear) → Behaviour

@@ -18,7 +18,7 @@ use Rattle.bank.specs.declared.memory.Location.the-variants.{Byte}
 use Rattle.bank.specs.Memory.{stored}
 use Rattle.calls.specs.Memory.{withBanks}
 use Rattle.gear.specs.declared.answer.Answer.{Answer}
-use Rattle.gear.specs.declared.answer.Answer.the-variants.{Done, Value, Nothing, Refused}
+use Rattle.gear.specs.declared.answer.Answer.the-variants.{Done, Value, Nothing, Incapable, Refused}
 use Rattle.gear.specs.declared.answer.Outcome.{Outcome}
 use Rattle.gear.specs.declared.record.Gear.{Gear}
 use Rattle.gear.specs.Serve.{serve, tell}
@@ -30,6 +30,7 @@ use Rattle.numbers.specs.Numbers.{both, pick}
 abbrev pub toldOr : ℕ → Answer → ℕ
 toldOr instead (Value last) = last
 toldOr instead Nothing = instead
+toldOr instead (Incapable need) = instead
 toldOr instead Done = instead
 toldOr instead (Refused why) = instead
 

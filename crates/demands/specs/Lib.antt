@@ -1,3 +1,4 @@
+pub mod Absent
 pub mod Blind
 pub mod Calls
 pub mod Demands

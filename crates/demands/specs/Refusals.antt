@@ -11,7 +11,7 @@ use Rattle.calls.specs.declared.address.Address.{Address}
 use Rattle.calls.specs.declared.address.Address.the-variants.{Short, Group, Broadcast, Unaddressed}
 use Rattle.gear.specs.Answer.{refused}
 use Rattle.gear.specs.declared.answer.Answer.{Answer}
-use Rattle.gear.specs.declared.answer.Answer.the-variants.{Done, Value, Nothing, Refused}
+use Rattle.gear.specs.declared.answer.Answer.the-variants.{Done, Value, Nothing, Incapable, Refused}
 use Rattle.gear.specs.declared.answer.Outcome.{Outcome}
 use Rattle.gear.specs.declared.answer.Refusal.{Refusal}
 use Rattle.gear.specs.declared.answer.Refusal.the-variants.{Unfit, Byte, Group as GroupAbove}
@@ -95,6 +95,7 @@ abbrev pub isRefusal : Answer → Bool
 isRefusal Done = false
 isRefusal (Value n) = false
 isRefusal Nothing = false
+isRefusal (Incapable need) = false
 isRefusal (Refused r) = true
 
 -- the named refusal with the record as it was, and no other answer; or where none is named, an answer that is no refusal at all

@@ -2,7 +2,7 @@
 use Prim.Native.Nat.{ℕ}
 use mathlib.Core.Bool.{Bool}
 use Rattle.gear.specs.declared.answer.Answer.{Answer}
-use Rattle.gear.specs.declared.answer.Answer.the-variants.{Done, Value, Nothing, Refused}
+use Rattle.gear.specs.declared.answer.Answer.the-variants.{Done, Value, Nothing, Incapable, Refused}
 use Rattle.gear.specs.declared.answer.Outcome.{Outcome}
 use Rattle.gear.specs.declared.answer.Refusal.{Refusal}
 use Rattle.gear.specs.declared.answer.Refusal.the-variants.{Profile, Unfit, Byte, Group, File}
@@ -10,7 +10,7 @@ use Rattle.gear.specs.declared.record.Gear.{Gear}
 use Rattle.bank.specs.declared.memory.Location.{Location}
 use Rattle.bank.specs.declared.memory.Location.the-variants.{Byte as Stored, Nothing as Unread}
 use Rattle.colour.specs.declared.value.ColourValue.{ColourValue}
-use Rattle.colour.specs.declared.value.ColourValue.the-variants.{Value as Shown, Nothing as Hidden}
+use Rattle.colour.specs.declared.value.ColourValue.the-variants.{Value as Shown, Unknown, Incapable as Lacking}
 use Rattle.numbers.specs.Numbers.{pick}
 
 abbrev pub refusalNumber : Refusal → ℕ
@@ -31,10 +31,19 @@ done g = record { answer = Done; gear = g }
 abbrev pub refused : Gear → Refusal → Outcome
 refused g r = record { answer = Refused r; gear = g }
 
--- what the gear lacks is no value, and no refusal
+-- an id that no gear has is no value; one whose need this gear lacks is no value either, and says so. Neither is a refusal
 unfoldable pub valueAnswer : ColourValue → Answer
 valueAnswer (Shown v) = Value v
-valueAnswer Hidden = Nothing
+valueAnswer Unknown = Nothing
+valueAnswer (Lacking need) = Incapable need
+
+-- both read as 'no value'
+unfoldable pub unexplained : Answer → Answer
+unexplained Done = Done
+unexplained (Value v) = Value v
+unexplained Nothing = Nothing
+unexplained (Incapable need) = Nothing
+unexplained (Refused r) = Refused r
 
 unfoldable pub locationAnswer : Location → Answer
 locationAnswer (Stored b) = Value b

@@ -1,9 +1,10 @@
-// What a call answers: nothing to say, a value, no value, or a refusal with its number.
+// What a call answers: nothing to say, a value, no value, no value since the gear lacks what it needs, or a refusal with its number.
 use crate::record::Gear;
 use bank::memory::Location;
+use colour::capability::Capability;
 use colour::value::ColourValue;
 ghost use mathlib.Core.Path.{_≡_};
-ghost use Rattle.gear.specs.Answer.{refusalNumber, flag, refused, done, valueAnswer, locationAnswer};
+ghost use Rattle.gear.specs.Answer.{refusalNumber, flag, refused, done, valueAnswer, unexplained, locationAnswer};
 
 // Why a call was refused.
 pub enum Refusal {
@@ -33,6 +34,7 @@ pub enum Answer {
     Done,
     Value(u16),
     Nothing,
+    Incapable(Capability),
     Refused(Refusal),
 }
 
@@ -71,16 +73,31 @@ pub fn refused(gear: Gear, refusal: Refusal) -> Outcome
     }
 }
 
-// The answer of a colour value; and of a memory location.
+// The answer of a colour value.
 pub fn value_answer(value: ColourValue) -> Answer
     ensures { λ r. ⌜ r ≡ valueAnswer value ⌝ }
 {
     match value {
         ColourValue::Value(number) => Answer::Value(number),
-        ColourValue::Nothing => Answer::Nothing,
+        ColourValue::Unknown => Answer::Nothing,
+        ColourValue::Incapable(need) => Answer::Incapable(need),
     }
 }
 
+// The same answer where nobody is told why there is no value.
+pub fn unexplained(answer: Answer) -> Answer
+    ensures { λ r. ⌜ r ≡ unexplained answer ⌝ }
+{
+    match answer {
+        Answer::Done => Answer::Done,
+        Answer::Value(number) => Answer::Value(number),
+        Answer::Nothing => Answer::Nothing,
+        Answer::Incapable(_) => Answer::Nothing,
+        Answer::Refused(refusal) => Answer::Refused(refusal),
+    }
+}
+
+// The answer of a memory location.
 pub fn location_answer(found: Location) -> Answer
     ensures { λ r. ⌜ r ≡ locationAnswer found ⌝ }
 {

@@ -79,6 +79,7 @@ pub fn new_gear(gear: Gear, entry: &[u8]) -> Outcome {
         Answer::Done => made,
         Answer::Value(_) => made,
         Answer::Nothing => made,
+        Answer::Incapable(_) => made,
     }
 }
 

@@ -53,6 +53,7 @@ fn tag(answer: Answer) -> u8 {
         Answer::Value(_) => 1,
         Answer::Nothing => 2,
         Answer::Refused(_) => 3,
+        Answer::Incapable(_) => 4,
     }
 }
 
@@ -62,6 +63,7 @@ fn number(answer: Answer) -> u16 {
         Answer::Value(value) => value,
         Answer::Nothing => 0,
         Answer::Refused(refusal) => refusal.number() as u16,
+        Answer::Incapable(need) => need.number() as u16,
     }
 }
 

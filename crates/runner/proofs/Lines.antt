@@ -4,8 +4,9 @@ use native.Mathlib.Omega.{arith}
 use mathlib.Core.Path.{_≡_, refl}
 use mathlib.Core.List.{[], _∷_}
 use lib.ListN.{length, length-append}
+use Rattle.colour.specs.declared.capability.Capability.{Capability}
 use Rattle.gear.specs.declared.answer.Answer.{Answer}
-use Rattle.gear.specs.declared.answer.Answer.the-variants.{Done, Value, Nothing, Refused}
+use Rattle.gear.specs.declared.answer.Answer.the-variants.{Done, Value, Nothing, Incapable, Refused}
 use Rattle.gear.specs.declared.answer.Refusal.{Refusal}
 use Rattle.gear.specs.declared.answer.Refusal.the-variants.{Profile, Unfit, Byte, Group, File}
 use Rattle.runner.specs.Line.{digits, numberText, answerText, lineText, endText, badText}
@@ -30,6 +31,7 @@ unfolding answerText
 answer-length Done = omega arith
 answer-length (Value n) = digits-most 5 n
 answer-length Nothing = omega arith
+answer-length (Incapable need) = omega arith
 answer-length (Refused r) = omega (arith, refusal-length r)
 
 -- a line of one of at most 4,096 steps
@@ -77,6 +79,11 @@ last = refl
 no-value : lineText 4096 Nothing ≡ 52 ∷ 48 ∷ 57 ∷ 54 ∷ 32 ∷ 45 ∷ 10 ∷ []
 unfolding lineText numberText answerText digits
 no-value = refl
+
+-- `7 ~`, whatever the gear lacks
+not-capable : (need : Capability) → lineText 7 (Incapable need) ≡ 55 ∷ 32 ∷ 126 ∷ 10 ∷ []
+unfolding lineText numberText answerText digits
+not-capable need = refl
 
 -- `10 !3`
 no-such-step : lineText 10 (Refused Byte) ≡ 49 ∷ 48 ∷ 32 ∷ 33 ∷ 51 ∷ 10 ∷ []

@@ -5,7 +5,7 @@ use mathlib.Core.List.{List, [], _∷_, _++_}
 use lib.Dec.{ltb}
 use lib.ListN.{length, take, drop}
 use Rattle.gear.specs.declared.answer.Answer.{Answer}
-use Rattle.gear.specs.declared.answer.Answer.the-variants.{Done, Value, Nothing, Refused}
+use Rattle.gear.specs.declared.answer.Answer.the-variants.{Done, Value, Nothing, Incapable, Refused}
 use Rattle.gear.specs.Answer.{refusalNumber}
 use Rattle.numbers.specs.Numbers.{pick}
 
@@ -32,11 +32,12 @@ decimal n = digits 5 n
 unfoldable pub numberText : ℕ → ℕ → List ℕ
 numberText n behind = decimal n ++ (behind ∷ [])
 
--- `.`, a decimal, `-`, or `!` and at once the refusal's number
+-- `.`, a decimal, `-`, `~` where the gear lacks what the value needs, or `!` and at once the refusal's number
 unfoldable pub answerText : Answer → List ℕ
 answerText Done = 46 ∷ []
 answerText (Value n) = decimal n
 answerText Nothing = 45 ∷ []
+answerText (Incapable need) = 126 ∷ []
 answerText (Refused r) = (33 ∷ []) ++ decimal (refusalNumber r)
 
 -- a step's number and its answer

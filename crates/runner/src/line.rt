@@ -109,6 +109,7 @@ fn put_answer(buf: &mut [u8], at: usize, answer: Answer) -> usize
         Answer::Done => put(buf, at, b'.'),
         Answer::Value(value) => put_digits(buf, at, value as usize),
         Answer::Nothing => put(buf, at, b'-'),
+        Answer::Incapable(_) => put(buf, at, b'~'),
         Answer::Refused(refusal) => put_refusal(buf, at, refusal),
     }
 }

@@ -7,9 +7,9 @@ use crate::call::Call;
 use crate::gear::{ColorMode, Gear};
 use crate::kinds::{is_placing, Outcome, KINDS};
 
-const TAGS: [&str; 4] = ["done", "value", "none", "refused"];
-const OUTCOMES: [Outcome; 6] =
-    [Outcome::Done, Outcome::Value, Outcome::No, Outcome::Yes, Outcome::None, Outcome::Refused];
+const TAGS: [&str; 5] = ["done", "value", "none", "refused", "not capable"];
+const OUTCOMES: [Outcome; 7] =
+    [Outcome::Done, Outcome::Value, Outcome::No, Outcome::Yes, Outcome::None, Outcome::Refused, Outcome::NotCapable];
 
 type State = (&'static str, fn(&Gear) -> bool);
 

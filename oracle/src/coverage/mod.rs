@@ -1,6 +1,7 @@
 //! What a list reaches: tables of counts, and the points that it was to reach and did not.
 
 mod bus;
+pub mod capabilities;
 mod colour;
 mod commands;
 mod gears;
@@ -31,6 +32,7 @@ fn watches() -> Vec<Box<dyn Watch>> {
         Box::new(gears::Gears::new()),
         Box::new(levels::Levels::new()),
         Box::new(colour::Values::new()),
+        Box::new(capabilities::Capabilities::new()),
         Box::new(colour::Changes::new()),
         Box::new(memory::Memory::new()),
         Box::new(bus::Walks::new()),

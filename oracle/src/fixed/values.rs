@@ -1,4 +1,5 @@
-//! Every colour value id on gears of each capability, with every active, staged and reported mode.
+//! Every colour value id on gears of each capability, with every active, staged and reported mode, and with every
+//! number of channels.
 
 use super::gears::*;
 use crate::calls::*;
@@ -20,9 +21,9 @@ pub fn record(r: &mut Recorder) {
         for channels in 0..=6 {
             r.call(colour(flags, channels).call());
             r.calls([store_tc_limit(0, 200), store_tc_limit(1, 350)]);
-            for state in STATES {
+            for (place, state) in STATES.into_iter().enumerate() {
                 set_state(r, state);
-                let all = matches!(channels, 0 | 3);
+                let all = asks_all(channels, place);
                 r.calls((0..=255).filter(|id| all || of_channels(*id)).map(colour_value));
             }
         }
@@ -33,6 +34,11 @@ fn set_state(r: &mut Recorder, (active, staged, reported): (ColorMode, ColorMode
     r.call(place_active(active, &tc_of(321), true));
     r.call(place_pending(staged, &tc_of(65_000)));
     r.call(place_report(&colour_of(reported)));
+}
+
+/// No channel and three ask for every id in every state, the other numbers in one state.
+fn asks_all(channels: u8, state: usize) -> bool {
+    matches!(channels, 0 | 3) || usize::from(channels) % STATES.len() == state
 }
 
 /// The ids that look at the channels, and those beside them.

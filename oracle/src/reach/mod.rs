@@ -10,6 +10,7 @@ mod steps;
 mod walks;
 
 use crate::answer::Answer;
+use crate::coverage::capabilities::Capabilities;
 use crate::coverage::grid::{self, Grid};
 use crate::coverage::levels::Levels;
 use crate::coverage::Watch as CallWatch;
@@ -41,6 +42,7 @@ fn watches() -> Watches {
         Box::new(profiles::Profiles::new()),
         Box::new(steps::Steps::new()),
         Box::new(arguments::Arguments::new()),
+        Box::new(AsCalls(Capabilities::new())),
         Box::new(walks::Walks::new()),
         Box::new(AsCalls(Levels::of_calls_alone())),
         Box::new(ends::Ends::new()),

@@ -9,8 +9,9 @@ use crate::session::step::*;
 const DONE: usize = 0;
 const NUMBER: usize = 1;
 const NONE: usize = 2;
-const REFUSED_3: usize = 3;
-const ANSWERS: [&str; 5] = [".", "a number", "-", "!3", "another refusal"];
+const NOT_CAPABLE: usize = 3;
+const REFUSED_3: usize = 4;
+const ANSWERS: [&str; 6] = [".", "a number", "-", "~", "!3", "another refusal"];
 
 /// Each kind by name, the answers that it gives and its bytes that are ignored. The last stands for
 /// every kind that is not listed.
@@ -22,7 +23,7 @@ const KINDS: [Kind; LISTED_KINDS + 1] = [
     ("2 query", &[NUMBER, NONE, REFUSED_3], &[2, 3]),
     ("3 memory read", &[NUMBER, NONE], &[3]),
     ("4 memory write", &[NUMBER, NONE], &[]),
-    ("5 colour value", &[NUMBER, NONE], &[2, 3]),
+    ("5 colour value", &[NUMBER, NONE, NOT_CAPABLE], &[2, 3]),
     ("6 Tc limit", &[DONE], &[]),
     ("7 Tc step", &[DONE], &[2, 3]),
     ("8 stage Tc", &[DONE], &[1]),
@@ -92,6 +93,7 @@ fn answer_place(answer: Answer) -> usize {
         Answer::Done => DONE,
         Answer::Value(_) => NUMBER,
         Answer::None => NONE,
+        Answer::NotCapable(_) => NOT_CAPABLE,
         STEP_KIND_NOT_LISTED => REFUSED_3,
         _ => REFUSED_3 + 1,
     }

@@ -32,6 +32,7 @@ fn answer_text(answer: Answer) -> String {
         Answer::Done => ".".to_string(),
         Answer::Value(value) => value.to_string(),
         Answer::None => "-".to_string(),
+        Answer::NotCapable(_) => "~".to_string(),
         Answer::Refused(number) => format!("!{number}"),
         Answer::Bool(_) => unreachable!("no step asks for a yes or no"),
     }

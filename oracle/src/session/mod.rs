@@ -1,4 +1,4 @@
-//! The session file and its runner, written from document 01, "Session file and runner".
+//! The session file and its runner, written from document 01, "Session file and runner", and document 02, 2.
 
 pub mod commands;
 pub mod file;

@@ -22,23 +22,26 @@ impl Draft {
     /// Well formed, with so many steps.
     pub fn sound(chance: &mut Chance, steps: usize) -> Self {
         let profile = profiles::for_new_gear(chance);
-        Draft::of(chance, profile, steps)
+        let steps = some_steps(chance, &profile, steps);
+        Draft::of(profile, steps)
     }
 
     /// Well formed, with the most types that a profile has.
     pub fn with_most_types(chance: &mut Chance, steps: usize) -> Self {
         let types: [u8; CODES_LEN] = std::array::from_fn(|_| chance.pick(&[6, 7, 8, 8, 1, 0, 255]));
         let profile = Profile { type_count: TYPES_MAX, types, ..profiles::accepted(chance) };
-        Draft::of(chance, profile, steps)
+        let steps = some_steps(chance, &profile, steps);
+        Draft::of(profile, steps)
     }
 
-    fn of(chance: &mut Chance, profile: Profile, steps: usize) -> Self {
+    /// Well formed, for a profile that is accepted.
+    pub fn of(profile: Profile, steps: Vec<Step>) -> Self {
         Draft {
             type_count: profile.type_count,
             types: profile.codes().to_vec(),
             profile_count: PROFILE_COUNT,
-            step_count: steps as u16,
-            steps: some_steps(chance, &profile, steps),
+            step_count: steps.len() as u16,
+            steps,
             profile,
             surplus: Vec::new(),
         }

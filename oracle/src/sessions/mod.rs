@@ -2,6 +2,7 @@
 
 mod damage;
 mod draft;
+mod every_id;
 mod steps;
 mod ways;
 
@@ -9,8 +10,13 @@ use crate::chance::Chance;
 use crate::session::frames::write_frame;
 use std::io::{self, Write};
 
+/// Of so many files one asks for every colour value id.
+const EVERY_ID_IN: u64 = 100;
+
 /// Makes one file after another. Some ways of making a file take their cases in turn.
 pub struct Generator {
+    made: u64,
+    every_id: every_id::EveryId,
     chance: Chance,
     cutting: ways::Cutting,
     pairs: ways::Pairs,
@@ -18,10 +24,20 @@ pub struct Generator {
 
 impl Generator {
     pub fn new(seed: u64) -> Self {
-        Generator { chance: Chance::new(seed), cutting: ways::Cutting::new(), pairs: ways::Pairs::new() }
+        Generator {
+            made: 0,
+            every_id: every_id::EveryId::new(seed),
+            chance: Chance::new(seed),
+            cutting: ways::Cutting::new(),
+            pairs: ways::Pairs::new(),
+        }
     }
 
     pub fn next_file(&mut self) -> Vec<u8> {
+        self.made += 1;
+        if self.made % EVERY_ID_IN == 0 {
+            return self.every_id.next_file();
+        }
         let way = self.chance.weighted(ways::WAYS);
         way(self)
     }

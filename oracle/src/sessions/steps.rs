@@ -22,6 +22,15 @@ pub fn some_steps(chance: &mut Chance, profile: &Profile, count: usize) -> Vec<S
     (0..count).map(|_| draw()).collect()
 }
 
+/// A step for every colour value id, in order.
+pub fn every_id(chance: &mut Chance) -> Vec<Step> {
+    let mut ask = |id| {
+        let [p, q, _] = ignored_bytes(chance);
+        Step([COLOUR_VALUE, id, p, q])
+    };
+    (0..=255).map(|id| ask(id)).collect()
+}
+
 fn next_step(chance: &mut Chance, calls: &mut random::Generator, gear: &Gear) -> Step {
     match chance.below(40) {
         0..=2 => of_unlisted_kind(chance),

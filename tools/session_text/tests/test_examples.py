@@ -1,9 +1,11 @@
-"""The examples: each text packs, and its comments say what its lines have."""
+"""The examples: each text packs, its comments say what its lines have, and its steps stand beside them."""
+import textwrap
 import unittest
 
 from . import ROOT, done
 from .files import EXAMPLE
 from .. import text
+from ..beside import beside
 from ..session import Malformed
 from ..text import BYTES, PROFILE
 
@@ -26,6 +28,19 @@ class Examples(unittest.TestCase):
             self.assertEqual(lines[:-1], comments, example.name)
             self.assertRegex(lines[-1], "^end " if comments else "^bad ")
             done["examples"] += 1
+
+    def test_the_steps_beside_the_lines_make_the_session_again(self):
+        for example in self.examples:
+            file, lines = text.pack(example.read_bytes()), example.with_suffix(".lines").read_bytes()
+            *rows, last = beside(file, lines).splitlines()
+            self.assertEqual([row[:12].rstrip() for row in rows] + [last], lines.decode().splitlines(), example.name)
+            if last.startswith("end "):
+                profile = text.show(file).splitlines()[0]
+                self.assertEqual(text.pack("\n".join([profile, *(row[12:] for row in rows)]).encode()), file)
+
+    def test_the_tour_shows_the_first_as_it_is(self):
+        shown = beside(EXAMPLE, (ROOT / "examples/first.lines").read_bytes())
+        self.assertIn(textwrap.indent(shown, "    "), (ROOT / "docs/TOUR.md").read_text())
 
     def test_the_first_is_document_01s(self):
         self.assertEqual(text.pack((ROOT / "examples/first.session").read_bytes()), EXAMPLE)

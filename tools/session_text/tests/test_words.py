@@ -6,7 +6,7 @@ from . import ROOT, done
 from .files import file_of
 from .. import text
 from ..language import LANGUAGE, word_list
-from ..names import QUERIES, WRITES
+from ..names import LACKS, QUERIES, WRITES
 from ..steps import BY_WORD
 
 # Kind, a, b, c of document 01 ('Kinds') and the line that stands for them.
@@ -56,6 +56,14 @@ STEPS = [
     ("step 7 2 0 0", (7, 2, 0, 0)),
     ("step 8 1 1 44", (8, 1, 1, 44)),
 ]
+
+# Part 209's table 11, the ids that have names: what a gear needs for their values.
+NEEDS = {
+    "needs xy": [0, 1, 192, 193, 224, 225],
+    "needs Tc": [2, *range(128, 132), 194, 226],
+    "needs a channel": [*range(9, 16), *range(201, 208), *range(233, 240)],
+    "needs nothing": [82, 208, 240],
+}
 
 # Profile bytes of document 01 (section b) and the items that stand for them, after 'profile type 6 '.
 PROFILES = [
@@ -113,4 +121,20 @@ class Words(unittest.TestCase):
         listed = word_list().splitlines()
         self.assertIn("write SetScene SCENE VALUE          64..79", listed)
         self.assertIn("query Status                        144", listed)
-        self.assertIn("colour-value staged-tc              194", listed)
+        self.assertIn("colour-value staged-tc              194  needs Tc", listed)
+
+    def test_each_colour_value_has_its_need(self):
+        listed = re.findall(r"(?m)^colour-value \S+ +(\d+) +(.+)$", word_list())
+        wanted = {str(value): need for need, values in NEEDS.items() for value in values}
+        self.assertEqual(sorted(listed), sorted(wanted.items()))
+        done["colour values"] += len(listed)
+
+    def test_the_help_says_why_a_colour_value_is_absent(self):
+        words = "prints ~ where this gear can't have the value, and - where no gear has the id"
+        self.assertIn(words, " ".join(LANGUAGE.split()))
+
+    def test_a_host_has_the_same_words(self):
+        for name in ("host/include/dali_gear.h", "host/rust/dali_gear.rs"):
+            source = (ROOT / name).read_text()
+            for words in LACKS.values():
+                self.assertEqual(source.count(f'"{words}"'), 1, f"{name}: {words}")

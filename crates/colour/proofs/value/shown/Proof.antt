@@ -52,8 +52,8 @@ returns-5 : tie.Need-returns-5
 unfolding shown
 returns-5 c = simp (← c .if-capable4 .ensures, ← c .before .own-or4 .ensures, ← c .before .before .channel-level .ensures, lt-ltb _ _ (c .before .before .before .if5 .taken), le-ltb _ _ (c .before .before .before .before .if4 .left), ne-eqb _ _ (c .before .before .before .before .before .if3 .left), ne-eqb _ _ (c .before .before .before .before .before .before .if2 .left), ne-eqb _ _ (c .before .before .before .before .before .before .before .if1 .left))
 
-cast-control : tie.Need-cast-control
-cast-control c = search needs
+cast-own-or : tie.Need-cast-own-or
+cast-own-or c = search needs
 
 own-or-requires-5 : tie.Need-own-or-requires-5
 own-or-requires-5 c κs = search needs
@@ -65,8 +65,8 @@ returns-6 : tie.Need-returns-6
 unfolding shown
 returns-6 c = simp (← c .if-capable5 .ensures, ← c .before .own-or5 .ensures, c .before .before .before .if6 .taken, le-leb _ _ (c .before .before .before .before .before .if4 .left), le-ltb _ _ (c .before .before .before .before .before .if4 .left), ne-eqb _ _ (c .before .before .before .before .before .before .if3 .left), ne-eqb _ _ (c .before .before .before .before .before .before .before .if2 .left), ne-eqb _ _ (c .before .before .before .before .before .before .before .before .if1 .left))
 
-cast-t16 : tie.Need-cast-t16
-cast-t16 c = search needs
+cast-number : tie.Need-cast-number
+cast-number c = search needs
 
 returns-7 : tie.Need-returns-7
 unfolding shown
@@ -94,10 +94,10 @@ shown-spec =
     own-or-requires-4
     if-capable-requires-4
     returns-5
-    cast-control
+    cast-own-or
     own-or-requires-5
     if-capable-requires-5
     returns-6
-    cast-t16
+    cast-number
     returns-7
     returns-8)

@@ -13,6 +13,9 @@ enum-told-2 c = search needs
 enum-told-3 : tie.Need-enum-told-3
 enum-told-3 c = search needs
 
+enum-told-4 : tie.Need-enum-told-4
+enum-told-4 c = search needs
+
 enum-known-answer : tie.Need-enum-known-answer
 enum-known-answer c = search needs
 
@@ -36,7 +39,11 @@ returns-3 c = simp (c .enum-told3 .given .1)
 
 returns-4 : tie.Need-returns-4
 unfolding answerCode
-returns-4 c = simp (c .number .ensures, c .before .before .answer .given .1)
+returns-4 c = simp (c .enum-told4 .given .1)
+
+returns-5 : tie.Need-returns-5
+unfolding answerCode
+returns-5 c = simp (c .number .ensures, c .before .before .answer .given .1)
 
 pub answer-code-spec : {M : Type 1} → statement M
 answer-code-spec =
@@ -45,10 +52,12 @@ answer-code-spec =
     enum-told
     enum-told-2
     enum-told-3
+    enum-told-4
     enum-known-answer
     number-requires
     cast-result
     returns
     returns-2
     returns-3
-    returns-4)
+    returns-4
+    returns-5)

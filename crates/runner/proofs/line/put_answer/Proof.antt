@@ -33,6 +33,15 @@ put-requires-2 c κs =
     let room = rw (c .before .enum-told2 .given .1) at (c .before .before .before .before .pre) in
     omega arith
 
+enum-told-3 : tie.Need-enum-told-3
+enum-told-3 c = search needs
+
+put-requires-3 : tie.Need-put-requires-3
+unfolding answerText
+put-requires-3 c κs =
+    let room = rw (c .before .enum-told3 .given .1) at (c .before .before .before .before .pre) in
+    omega arith
+
 enum-known-answer-2 : tie.Need-enum-known-answer-2
 enum-known-answer-2 c = search needs
 
@@ -66,7 +75,14 @@ same-length-4 c = search needs
 
 returns-4 : tie.Need-returns-4
 unfolding answerText
-returns-4 c = rw (c .before .before .before .before .before .answer2 .given .1) (c .before .before .put-refusal .ensures)
+returns-4 c = rw (c .before .before .before .before .enum-told3 .given .1) (c .before .before .put3 .ensures)
+
+same-length-5 : tie.Need-same-length-5
+same-length-5 c = search needs
+
+returns-5 : tie.Need-returns-5
+unfolding answerText
+returns-5 c = rw (c .before .before .before .before .before .answer2 .given .1) (c .before .before .put-refusal .ensures)
 
 pub put-answer-spec : {M : Type 1} → statement M
 put-answer-spec =
@@ -79,6 +95,8 @@ put-answer-spec =
     put-digits-requires
     enum-told-2
     put-requires-2
+    enum-told-3
+    put-requires-3
     enum-known-answer-2
     put-refusal-requires
     same-length
@@ -88,4 +106,6 @@ put-answer-spec =
     same-length-3
     returns-3
     same-length-4
-    returns-4)
+    returns-4
+    same-length-5
+    returns-5)
