@@ -1,13 +1,13 @@
 -- Why a colour value is absent (request 2 of document 02): the old answer, and what was missing by the table of ids.
 use Prim.Native.Nat.{ℕ, _≤_, _<_, _%_}
-use mathlib.Core.Path.{_≡_, refl, sym, _∙_, ap}
+use mathlib.Core.Path.{_≡_, refl, _∙_, ap}
 use mathlib.Core.Bool.{Bool, true, false}
 use mathlib.Core.List.{List, []}
 use lib.Dec.{eqb, eqb→eq, ltb}
 use lib.ListN.{replicate, length-replicate}
 use native.Mathlib.Omega.{arith}
 use borrow.Author.Tests.{le-ltb, ltb-true, ltb-false}
-use Rattle.demands.specs.Absent.{Absent, HostAbsent, capable, channelIds, commonIds, explained, explainedBy, ifThere, isValue, limitBefore, panelFile, panelLines, shownBefore, tcIds, valueBefore, xyIds}
+use Rattle.demands.specs.Absent.{Absent, HostAbsent, byList, capable, channelIds, commonIds, explained, explainedBy, ifThere, isValue, limitBefore, panelFile, panelLines, shownBefore, tcIds, valueBefore, xyIds}
 use Rattle.demands.specs.Calls.{perform}
 use Rattle.demands.specs.Calls.Call.{ColorValue}
 use Rattle.demands.specs.Fit.{Fit}
@@ -57,7 +57,7 @@ use Rattle.step.specs.Step.{step as stepRule}
 
 -- by the lists of ids
 abbrev needOf : ℕ → ℕ
-needOf id = pick (listed commonIds id) 1 (pick (listed xyIds id) 2 (pick (listed tcIds id) 3 (pick (listed channelIds id) 4 0)))
+needOf id = byList id 1 2 3 4 0
 
 -- by the rule: the place of a number of a colour, and the kind of an id
 abbrev needAt : ℕ → ℕ
@@ -119,38 +119,31 @@ same-need id = by-cases (ltb id 256) (λ e. low id (ltb-true id 256 e)) (λ e. h
 
 -- ## An answer now and before, by what its id needs
 
+-- a choice by the number
+abbrev byNumber : {A : Type 0} → ℕ → A → A → A → A → A → A
+byNumber need common xy tc channels none =
+    pick (eqb need 1) common (pick (eqb need 2) xy (pick (eqb need 3) tc (pick (eqb need 4) channels none)))
+
+by-number : {A : Type 0} (id : ℕ) (a b c d e : A) → byList id a b c d e ≡ byNumber (needOf id) a b c d e
+by-number id a b c d e =
+    by-cases (listed commonIds id) (λ k. rw k)
+    (λ k.
+    by-cases (listed xyIds id) (λ l. rw (k, l))
+    (λ l.
+    by-cases (listed tcIds id) (λ m. rw (k, l, m))
+    (λ m. by-cases (listed channelIds id) (λ n. rw (k, l, m, n)) (λ n. rw (k, l, m, n)))))
+
+-- by the number of the rule
+by-rule : {A : Type 0} (id : ℕ) (a b c d e : A) → byNumber (needBy (kindOf id) (id % 32)) a b c d e ≡ byList id a b c d e
+by-rule id a b c d e = rw (← same-need id, ← by-number id a b c d e)
+
 abbrev byNeed : Capabilities → ℕ → Answer → Answer
 byNeed can need value =
-    pick (eqb need 1) value
-    (pick (eqb need 2) (pick (can .xy) value (Incapable Xy))
-    (pick (eqb need 3) (pick (can .tc) value (Incapable Tc))
-    (pick (eqb need 4) (pick (ltb 0 (can .channels)) value (Incapable Channels)) Nothing)))
-
--- with the lists in place of the number; and the same of the test
-by-lists : (can : Capabilities) (id : ℕ) (value : Answer) → explained can id value ≡ byNeed can (needOf id) value
-unfolding explained
-by-lists can id value =
-    by-cases (listed commonIds id) (λ a. rw a)
-    (λ a.
-    by-cases (listed xyIds id) (λ b. rw (a, b))
-    (λ b.
-    by-cases (listed tcIds id) (λ c. rw (a, b, c))
-    (λ c. by-cases (listed channelIds id) (λ d. rw (a, b, c, d)) (λ d. rw (a, b, c, d)))))
+    byNumber need value (pick (can .xy) value (Incapable Xy)) (pick (can .tc) value (Incapable Tc))
+    (pick (ltb 0 (can .channels)) value (Incapable Channels)) Nothing
 
 abbrev able : Capabilities → ℕ → Bool
-able can need =
-    pick (eqb need 1) true
-    (pick (eqb need 2) (can .xy) (pick (eqb need 3) (can .tc) (pick (eqb need 4) (ltb 0 (can .channels)) false)))
-
-able-lists : (can : Capabilities) (id : ℕ) → capable can id ≡ able can (needOf id)
-unfolding capable
-able-lists can id =
-    by-cases (listed commonIds id) (λ a. rw a)
-    (λ a.
-    by-cases (listed xyIds id) (λ b. rw (a, b))
-    (λ b.
-    by-cases (listed tcIds id) (λ c. rw (a, b, c))
-    (λ c. by-cases (listed channelIds id) (λ d. rw (a, b, c, d)) (λ d. rw (a, b, c, d)))))
+able can need = byNumber need true (can .xy) (can .tc) (ltb 0 (can .channels)) false
 
 abbrev Told : Capabilities → ℕ → Answer → Answer → Type 0
 Told can need now before = (unexplained now ≡ before) × (now ≡ byNeed can need before) × (isValue now ≡ able can need)
@@ -216,20 +209,12 @@ unfolding perform colorValueCall tell unexplained
 as-before g id = by-cases (fitb g) (λ e. rw e (value-told (g .colour) id .0)) (λ e. rw e)
 
 by-table : (g : Gear) (id : ℕ) → perform (ColorValue id) g .answer ≡ explainedBy g id
-unfolding perform colorValueCall
-by-table g id =
-    ap (tell g)
-    (value-told (g .colour) id .1 ∙
-    ap (λ (need : ℕ). byNeed (g .colour .can) need (valueBefore (g .colour) id)) (sym (same-need id)) ∙
-    sym (by-lists (g .colour .can) id (valueBefore (g .colour) id)))
+unfolding perform colorValueCall explained
+by-table g id = ap (tell g) (value-told (g .colour) id .1 ∙ by-rule id _ _ _ _ _)
 
 exactly-valued : (g : Gear) (id : ℕ) → Fit g → isValue (perform (ColorValue id) g .answer) ≡ capable (g .colour .can) id
-unfolding perform colorValueCall tell
-exactly-valued g id fit =
-    rw (fit-exactly g .0 fit)
-    (value-told (g .colour) id .2 ∙
-    ap (able (g .colour .can)) (sym (same-need id)) ∙
-    sym (able-lists (g .colour .can) id))
+unfolding perform colorValueCall tell capable
+exactly-valued g id fit = rw (fit-exactly g .0 fit) (value-told (g .colour) id .2 ∙ by-rule id _ _ _ _ _)
 
 kept : (g : Gear) (id : ℕ) → perform (ColorValue id) g .gear ≡ g
 unfolding perform

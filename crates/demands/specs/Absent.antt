@@ -47,20 +47,21 @@ channelIds = (9, 15) ∷ (201, 207) ∷ (233, 239) ∷ []
 abbrev pub commonIds : List (ℕ × ℕ)
 commonIds = (64, 82) ∷ (208, 208) ∷ (240, 240) ∷ []
 
--- an id of no list is unknown; an id of a list has its value, or this gear lacks what the list needs
+-- a choice by the list that has the id: common, xy, Tc, channels; and one for an id of none of them
+abbrev pub byList : {A : Type 0} → ℕ → A → A → A → A → A → A
+byList id common xy tc channels none =
+    pick (listed commonIds id) common
+    (pick (listed xyIds id) xy (pick (listed tcIds id) tc (pick (listed channelIds id) channels none)))
+
+-- an id of a list has its value, or this gear lacks what the list needs; an id of no list is unknown
 unfoldable pub explained : Capabilities → ℕ → Answer → Answer
 explained can id value =
-    pick (listed commonIds id) value
-    (pick (listed xyIds id) (pick (can .xy) value (Incapable Xy))
-    (pick (listed tcIds id) (pick (can .tc) value (Incapable Tc))
-    (pick (listed channelIds id) (pick (ltb 0 (can .channels)) value (Incapable Channels)) Nothing)))
+    byList id value (pick (can .xy) value (Incapable Xy)) (pick (can .tc) value (Incapable Tc))
+    (pick (ltb 0 (can .channels)) value (Incapable Channels)) Nothing
 
 -- the id is of a list, and this gear has what the list needs
 unfoldable pub capable : Capabilities → ℕ → Bool
-capable can id =
-    pick (listed commonIds id) true
-    (pick (listed xyIds id) (can .xy)
-    (pick (listed tcIds id) (can .tc) (pick (listed channelIds id) (ltb 0 (can .channels)) false)))
+capable can id = byList id true (can .xy) (can .tc) (ltb 0 (can .channels)) false
 
 abbrev pub isValue : Answer → Bool
 isValue Done = false
