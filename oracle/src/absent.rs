@@ -1,5 +1,5 @@
 //! Why a gear has no value for a colour value id (document 02, 2). The Rust says only that there is none; the table
-//! here is written from the words of part 209.
+//! here is written from the words of part 209 as they are known, without a copy of it at hand.
 
 use crate::gear::GearSpec;
 

@@ -3,6 +3,7 @@ use Prim.Native.Nat.{ℕ}
 use mathlib.Core.Path.{_≡_, refl, subst}
 use mathlib.Core.Bool.{true}
 use mathlib.Core.Option.{Option, none, some}
+use Rattle.demands.specs.Absent.{Other}
 use Rattle.demands.specs.Calls.{Call, told, perform}
 use Rattle.demands.specs.Calls.Call.{StandardWrite, ArcPower, Query, Matches, TcStep, XyStep, StoreTcLimit, Stage, Activate, CopyReport, SetFeatures, ColorValue, ColourStatus, Features, ControlByte, FeatureByte, Automatic, ReadMemory, WriteMemory, AdvancesDtr0, ImplementsBank, SetLockByte, SetLocation, SetGearUnit, SetLastOffset, ClearNumber, Hear, HoldsFrame, HearElsewhere, PowerCycle, StatusByte, LampOn, FailureBits, ThermalShutDown, LampFailure, ActualLevel, IsType, SetEnabled, SetLampFailure, SetLampStarting, SetFaults}
 use Rattle.demands.specs.Refusals.{Judged, RefusesExactly, listed, refusalOf, writeBytes}
@@ -60,9 +61,6 @@ opened-judged g b d e =
     subst (λ (o : Outcome). Strictly (pick (listed writeBytes b) none (some Byte)) g o) (opened g b d e) (write-judged g b d e)
 
 -- ## Every call
-
-abbrev Other : Call → Type 0
-Other c = (id : ℕ) → c ≡ ColorValue id → ⊥
 
 each : (c : Call) (g : Gear) → JudgedWhere (Other c) (refusalOf c g) g (perform c g)
 unfolding perform recoloured rebanked activateCall actualLevelCall advancesCall applyStandardWrite automaticCall clearNumberCall colorValueCall colourStatusCall controlCall copyReportCall directArcPower failureBitsCall featureByteCall featuresCall gearQueryReply hearCall hearElsewhereCall holdsCall implementsCall lampFailureCall lampOnCall matchesCall memoryLocationCall powerCycleCall setEnabledCall setFaultsCall setFeaturesCall setLampFailureCall setLampStartingCall setLastCall setLocationCall setLockCall setUnitCall stageCall statusCall storeTcLimitCall tcStepCall thermalCall typeCall writeMemoryCall xyStepCall

@@ -107,6 +107,10 @@ explainedBy g id = tell g (explained (g .colour .can) id (valueBefore (g .colour
 
 -- ## Of calls that behave in some way
 
+-- any call but a colour value
+abbrev pub Other : Call → Type 0
+Other c = (id : ℕ) → c ≡ ColorValue id → ⊥
+
 pub record Absent (f : Behaviour) : Type 0 where
   -- its two cases read as 'no value', the answer is the old one, on every record and for every id; and the record stays
   pub as-before : (g : Gear) (id : ℕ) → unexplained (f (ColorValue id) g .answer) ≡ tell g (valueBefore (g .colour) id)
@@ -116,8 +120,7 @@ pub record Absent (f : Behaviour) : Type 0 where
   -- and there is a value wherever neither is in the way, so that each case is given exactly when
   pub exactly-valued : (g : Gear) (id : ℕ) → Fit g → isValue (f (ColorValue id) g .answer) ≡ capable (g .colour .can) id
   -- no other call says that the gear lacks something
-  pub nowhere-else :
-      (c : Call) (g : Gear) → ((id : ℕ) → c ≡ ColorValue id → ⊥) → unexplained (f c g .answer) ≡ f c g .answer
+  pub nowhere-else : (c : Call) (g : Gear) → Other c → unexplained (f c g .answer) ≡ f c g .answer
 
 -- ## Of what a host is told of a colour value (kind 5) by its library, on the record that the file's steps leave
 
