@@ -5,7 +5,6 @@ use mathlib.Core.Path.{_≡_, refl}
 use mathlib.Core.Bool.{Bool, true, false}
 use mathlib.Core.List.{[]}
 use lib.Dec.{eqb, leb}
-use Rattle.calls.specs.Memory.{withBanks}
 use Rattle.bank.specs.declared.build.Banks.{Banks}
 use Rattle.gear.specs.declared.answer.Answer.{Answer}
 use Rattle.gear.specs.declared.answer.Outcome.{Outcome}
@@ -20,6 +19,7 @@ use Rattle.gear.specs.Serve.{serve, tell}
 use Rattle.gear.specs.Write.{applyStandardWrite, arcWrite, configWrite, directArcPower, enableWrite, identify, recallScene, removeScene, setMin, setPowerOnLevel, setScene, setSystemFailureLevel, write}
 use Rattle.gear.specs.declared.marks.Walk.{Walk}
 use Rattle.gear.specs.declared.marks.Walk.the-variants.{Off, At}
+use Rattle.gear.specs.Parts.{withBanks}
 use Rattle.query.specs.Reply.{gearQueryReply, heardQuery, isQuery, query, reported, reportFor}
 use Rattle.query.specs.Walk.{deviceType, next, nextAt, nextDeviceType}
 use Rattle.numbers.proofs.Logic.{by-cases}

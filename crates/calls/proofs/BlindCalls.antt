@@ -3,10 +3,10 @@ use Prim.Native.Nat.{ℕ}
 use mathlib.Core.Path.{_≡_, refl}
 use mathlib.Core.Bool.{Bool, true, false}
 use Rattle.calls.specs.Address.{addressed, judged, matching, matchesCall}
-use Rattle.calls.specs.Colours.{activateCall, automaticCall, colorValueCall, colourStatusCall, controlCall, copyReportCall, featureByteCall, featuresCall, recoloured, setFeaturesCall, stageCall, storeTcLimitCall, tcStepCall, withColour, xyStepCall}
+use Rattle.calls.specs.Colours.{activateCall, automaticCall, colorValueCall, colourStatusCall, controlCall, copyReportCall, featureByteCall, featuresCall, recoloured, setFeaturesCall, stageCall, storeTcLimitCall, tcStepCall, xyStepCall}
 use Rattle.calls.specs.declared.address.Address.{Address}
 use Rattle.calls.specs.declared.address.Address.the-variants.{Broadcast, Group, Short, Unaddressed}
-use Rattle.calls.specs.Memory.{clearNumberCall, implementsCall, rebanked, setLastCall, setLocationCall, setLockCall, setUnitCall, withBanks}
+use Rattle.calls.specs.Memory.{clearNumberCall, implementsCall, rebanked, setLastCall, setLocationCall, setLockCall, setUnitCall}
 use Rattle.calls.specs.Pairing.{hear, hearCall, hearElsewhereCall, holdsCall, waits}
 use Rattle.calls.specs.Power.{powerCycle, powerCycleCall}
 use Rattle.calls.specs.Reads.{actualLevelCall, failureBitsCall, lampFailureCall, lampOnCall, statusCall, thermalCall, typeCall}
@@ -17,8 +17,9 @@ use Rattle.colour.specs.declared.record.Colour.{Colour}
 use Rattle.colour.specs.declared.setting.ColourSetting.{ColourSetting}
 use Rattle.gear.specs.declared.answer.Answer.{Answer}
 use Rattle.gear.specs.declared.answer.Answer.the-variants.{Done}
-use Rattle.gear.specs.declared.record.Faults.{Faults}
+use Rattle.gear.specs.declared.condition.Faults.{Faults}
 use Rattle.gear.specs.declared.record.Gear.{Gear}
+use Rattle.gear.specs.Parts.{withBanks}
 use Rattle.numbers.proofs.Logic.{by-cases}
 
 recoloured-alike : (g : Gear) (b : Banks) (c : Colour) → Alike (recoloured (withBanks g b) c) (recoloured g c)

@@ -2,8 +2,8 @@
 use Prim.Native.Nat.{ℕ, _<_}
 use mathlib.Core.Path.{_≡_, refl}
 use mathlib.Core.Bool.{Bool, true, false}
-use Rattle.calls.specs.Colours.{recoloured, withColour, tcStepCall, xyStepCall, storeTcLimitCall, stageCall, activateCall, copyReportCall, setFeaturesCall}
-use Rattle.calls.specs.Memory.{rebanked, withBanks, writeMemoryCall, setLockCall, setLocationCall, setUnitCall, setLastCall, clearNumberCall}
+use Rattle.calls.specs.Colours.{recoloured, tcStepCall, xyStepCall, storeTcLimitCall, stageCall, activateCall, copyReportCall, setFeaturesCall}
+use Rattle.calls.specs.Memory.{rebanked, writeMemoryCall, setLockCall, setLocationCall, setUnitCall, setLastCall, clearNumberCall}
 use Rattle.calls.specs.Pairing.{waits, isOpen, waiting, heardAnswer, paired, hear, hearCall, hearElsewhereCall}
 use Rattle.calls.specs.Power.{powerCycle, powerCycleCall}
 use Rattle.calls.specs.Setters.{setEnabledCall, setLampFailureCall, setLampStartingCall, setFaultsCall}
@@ -21,9 +21,10 @@ use Rattle.gear.specs.declared.marks.Marks.{Marks}
 use Rattle.gear.specs.declared.marks.Pair.{Pair}
 use Rattle.gear.specs.declared.marks.Pair.the-variants.{Closed}
 use Rattle.gear.specs.declared.marks.Walk.the-variants.{Off}
-use Rattle.gear.specs.declared.record.Faults.{Faults}
+use Rattle.gear.specs.declared.condition.Faults.{Faults}
 use Rattle.gear.specs.declared.record.Gear.{Gear}
 use Rattle.gear.specs.Marks.{walkFit, withPair}
+use Rattle.gear.specs.Parts.{withBanks, withColour}
 use Rattle.gear.specs.Record.{fitb}
 use Rattle.gear.specs.Serve.{serve}
 use Rattle.gear.proofs.Fit.{GearFit}
@@ -125,7 +126,7 @@ power-cycle-kept g =
     (λ f.
     record {
       unit = f .unit;
-      levels = LevelFit.power-up-kept (g .on .level) (f .levels);
+      levels = LevelFit.power-up-kept (g .settings .on .level) (f .levels);
       colour = ColourKept.power-up-kept (f .colour);
       walk = f .walk;
     })

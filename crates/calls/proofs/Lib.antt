@@ -1,4 +1,4 @@
 pub mod Banks
 pub mod BlindCalls
 pub mod Kept
-pub mod Levels
+pub mod Left

@@ -22,13 +22,13 @@ isShort (Own own) a = eqb own a
 
 unfoldable pub addressed : Gear → Address → Bool
 addressed g (Short a) = isShort (g .unit .short) a
-addressed g (Group n) = memberAt (g .groups) n
+addressed g (Group n) = memberAt (g .settings .groups) n
 addressed g Broadcast = true
 addressed g Unaddressed = missing (g .unit .short)
 
 -- a gear that is not enabled is addressed by nothing
 unfoldable pub matching : Gear → Address → Answer
-matching g a = flag (pick (g .enabled) (addressed g a) false)
+matching g a = flag (pick (g .condition .enabled) (addressed g a) false)
 
 unfoldable pub beyond : Address → Bool
 beyond (Short a) = false

@@ -13,11 +13,8 @@ use Rattle.gear.specs.declared.answer.Answer.{Answer}
 use Rattle.gear.specs.declared.answer.Answer.the-variants.{Value}
 use Rattle.gear.specs.declared.answer.Outcome.{Outcome}
 use Rattle.gear.specs.declared.record.Gear.{Gear}
+use Rattle.gear.specs.Parts.{withColour}
 use Rattle.gear.specs.Serve.{serve, tell}
-use Rattle.gear.specs.Write.{withLight}
-
-abbrev pub withColour : Gear → Colour → Gear
-withColour g c = withLight g (g .levels) (g .marks) c
 
 unfoldable pub recoloured : Gear → Colour → Outcome
 recoloured g c = serve g (done (withColour g c))

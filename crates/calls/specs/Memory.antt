@@ -9,27 +9,8 @@ use Rattle.gear.specs.declared.answer.Answer.{Answer}
 use Rattle.gear.specs.declared.answer.Answer.the-variants.{Done}
 use Rattle.gear.specs.declared.answer.Outcome.{Outcome}
 use Rattle.gear.specs.declared.record.Gear.{Gear}
+use Rattle.gear.specs.Parts.{withBanks}
 use Rattle.gear.specs.Serve.{serve, tell}
-
-abbrev pub withBanks : Gear → Banks → Gear
-withBanks g b =
-    record {
-      unit = g .unit;
-      enabled = g .enabled;
-      levels = g .levels;
-      marks = g .marks;
-      on = g .on;
-      failure = g .failure;
-      fades = g .fades;
-      groups = g .groups;
-      scenes = g .scenes;
-      colours = g .colours;
-      lamp = g .lamp;
-      faults = g .faults;
-      curve = g .curve;
-      colour = g .colour;
-      banks = b;
-    }
 
 unfoldable pub rebanked : Gear → Answer → Banks → Outcome
 rebanked g a b = serve g (record { answer = a; gear = withBanks g b })
@@ -40,8 +21,8 @@ memoryLocationCall g bank offset = tell g (locationAnswer (memoryLocation (g .ba
 -- write enable is not asked for
 unfoldable pub writeMemoryCall : Gear → ℕ → ℕ → ℕ → Outcome
 writeMemoryCall g bank offset value =
-    rebanked g (locationAnswer (writeMemoryLocation (g .banks) (g .faults .unstored) bank offset value .answer))
-    (writeMemoryLocation (g .banks) (g .faults .unstored) bank offset value .banks)
+    rebanked g (locationAnswer (writeMemoryLocation (g .banks) (g .condition .faults .unstored) bank offset value .answer))
+    (writeMemoryLocation (g .banks) (g .condition .faults .unstored) bank offset value .banks)
 
 unfoldable pub advancesCall : Gear → ℕ → ℕ → Answer
 advancesCall g bank offset = tell g (flag (advancesDtr0Past (g .banks) (g .unit .bare) (g .unit .holds) bank offset))

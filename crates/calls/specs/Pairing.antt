@@ -11,8 +11,8 @@ use Rattle.gear.specs.declared.marks.Pair.the-variants.{Closed, Open}
 use Rattle.gear.specs.declared.marks.Walk.the-variants.{Off}
 use Rattle.gear.specs.declared.record.Gear.{Gear}
 use Rattle.gear.specs.Marks.{withPair, withWalk}
+use Rattle.gear.specs.Parts.{withMarks}
 use Rattle.gear.specs.Serve.{serve, tell}
-use Rattle.gear.specs.Write.{withMarks}
 use Rattle.numbers.specs.Numbers.{pick}
 
 unfoldable pub waits : Pair → ℕ → Bool

@@ -4,13 +4,13 @@ use Rattle.gear.specs.Answer.{done}
 use Rattle.gear.specs.declared.answer.Outcome.{Outcome}
 use Rattle.gear.specs.declared.record.Gear.{Gear}
 use Rattle.gear.specs.Marks.{powerUpMarks}
+use Rattle.gear.specs.Parts.{withLight}
 use Rattle.gear.specs.Serve.{serve}
-use Rattle.gear.specs.Write.{withLight}
 use Rattle.level.specs.Levels.{powerUp}
 
 -- the level is the stored one, unclamped, unless that is 255
 unfoldable pub powerCycle : Gear → Gear
-powerCycle g = withLight g (powerUp (g .levels) (g .on .level)) (powerUpMarks (g .marks)) (powerUpColour (g .colour))
+powerCycle g = withLight g (powerUp (g .levels) (g .settings .on .level)) (powerUpMarks (g .marks)) (powerUpColour (g .colour))
 
 unfoldable pub powerCycleCall : Gear → Outcome
 powerCycleCall g = serve g (done (powerCycle g))

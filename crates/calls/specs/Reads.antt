@@ -10,23 +10,23 @@ use Rattle.query.specs.Lamp.{actualLevel, lampFailureFrom207, lampOn, thermalSh
 use Rattle.query.specs.Status.{statusByte}
 
 unfoldable pub statusCall : Gear → Answer
-statusCall g = tell g (Value (statusByte (g .unit) (g .levels) (g .marks) (g .lamp) (g .faults)))
+statusCall g = tell g (Value (statusByte (g .unit) (g .levels) (g .marks) (g .condition .lamp) (g .condition .faults)))
 
 unfoldable pub lampOnCall : Gear → Answer
-lampOnCall g = tell g (flag (lampOn (g .unit) (g .levels) (g .lamp) (g .faults)))
+lampOnCall g = tell g (flag (lampOn (g .unit) (g .levels) (g .condition .lamp) (g .condition .faults)))
 
 -- bits 0 to 6
 unfoldable pub failureBitsCall : Gear → Answer
-failureBitsCall g = tell g (Value (g .faults .failure % 128))
+failureBitsCall g = tell g (Value (g .condition .faults .failure % 128))
 
 unfoldable pub thermalCall : Gear → Answer
-thermalCall g = tell g (flag (thermalShutDown (g .unit) (g .faults)))
+thermalCall g = tell g (flag (thermalShutDown (g .unit) (g .condition .faults)))
 
 unfoldable pub lampFailureCall : Gear → Answer
-lampFailureCall g = tell g (flag (lampFailureFrom207 (g .unit) (g .faults)))
+lampFailureCall g = tell g (flag (lampFailureFrom207 (g .unit) (g .condition .faults)))
 
 unfoldable pub actualLevelCall : Gear → Answer
-actualLevelCall g = tell g (Value (actualLevel (g .unit) (g .levels) (g .faults) (g .colour .active)))
+actualLevelCall g = tell g (Value (actualLevel (g .unit) (g .levels) (g .condition .faults) (g .colour .active)))
 
 unfoldable pub typeCall : Gear → ℕ → Answer
 typeCall g code = tell g (flag (isType (g .unit) code))

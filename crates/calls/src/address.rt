@@ -32,7 +32,7 @@ fn addressed(gear: Gear, address: Address) -> bool
 {
     let unit = gear.unit;
     let short = unit.short;
-    let groups = gear.groups;
+    let groups = gear.settings.groups;
     match address {
         Address::Short(number) => is_short(short, number),
         Address::Group(group) => is_member(groups, group),
@@ -45,7 +45,7 @@ fn addressed(gear: Gear, address: Address) -> bool
 fn matching(gear: Gear, address: Address) -> Answer
     ensures { λ r. ⌜ r ≡ matching gear address ⌝ }
 {
-    if gear.enabled {
+    if gear.condition.enabled {
         return flag(addressed(gear, address));
     }
     flag(false)

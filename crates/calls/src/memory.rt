@@ -36,7 +36,7 @@ pub fn write_memory_location(gear: Gear, bank: u8, offset: u8, value: u8) -> Out
 {
     if gear.fit() {
         let banks = gear.banks;
-        let written = write(banks, gear.faults.unstored, bank, offset, value);
+        let written = write(banks, gear.condition.faults.unstored, bank, offset, value);
         let found = written.answer;
         let rest = written.banks;
         let mut next = gear;

@@ -13,7 +13,7 @@ fn cycled(gear: Gear) -> Gear
     let levels = gear.levels;
     let marks = gear.marks;
     let colour = gear.colour;
-    let stored = gear.on.level;
+    let stored = gear.settings.on.level;
     let mut next = gear;
     next.levels = levels.power_up(stored);
     next.marks = marks.power_up();

@@ -14,7 +14,13 @@ ghost use Rattle.calls.specs.Reads.{statusCall, lampOnCall, failureBitsC
 pub fn status_byte(gear: Gear) -> Answer
     ensures { λ r. ⌜ r ≡ statusCall gear ⌝ }
 {
-    let status = status_of(gear.unit, gear.levels, gear.marks, gear.lamp, gear.faults);
+    let status = status_of(
+        gear.unit,
+        gear.levels,
+        gear.marks,
+        gear.condition.lamp,
+        gear.condition.faults,
+    );
     tell(gear, Answer::Value(status as u16))
 }
 
@@ -23,7 +29,12 @@ pub fn lamp_on(gear: Gear) -> Answer
 {
     tell(
         gear,
-        flag(lit(gear.unit, gear.levels, gear.lamp, gear.faults)),
+        flag(lit(
+            gear.unit,
+            gear.levels,
+            gear.condition.lamp,
+            gear.condition.faults,
+        )),
     )
 }
 
@@ -32,26 +43,31 @@ pub fn lamp_on(gear: Gear) -> Answer
 pub fn failure_bits(gear: Gear) -> Answer
     ensures { λ r. ⌜ r ≡ failureBitsCall gear ⌝ }
 {
-    let bits = gear.faults.failure % 128;
+    let bits = gear.condition.faults.failure % 128;
     tell(gear, Answer::Value(bits as u16))
 }
 
 pub fn thermal_shut_down(gear: Gear) -> Answer
     ensures { λ r. ⌜ r ≡ thermalCall gear ⌝ }
 {
-    tell(gear, flag(shut(gear.unit, gear.faults)))
+    tell(gear, flag(shut(gear.unit, gear.condition.faults)))
 }
 
 pub fn lamp_failure_from_207(gear: Gear) -> Answer
     ensures { λ r. ⌜ r ≡ lampFailureCall gear ⌝ }
 {
-    tell(gear, flag(fails(gear.unit, gear.faults)))
+    tell(gear, flag(fails(gear.unit, gear.condition.faults)))
 }
 
 pub fn actual_level_answer(gear: Gear) -> Answer
     ensures { λ r. ⌜ r ≡ actualLevelCall gear ⌝ }
 {
-    let level = level_of(gear.unit, gear.levels, gear.faults, gear.colour.active);
+    let level = level_of(
+        gear.unit,
+        gear.levels,
+        gear.condition.faults,
+        gear.colour.active,
+    );
     tell(gear, Answer::Value(level as u16))
 }
 

@@ -3,7 +3,7 @@ use gear::answer::Outcome;
 use gear::answer::Refusal;
 use gear::answer::done;
 use gear::answer::refused;
-use gear::record::Faults;
+use gear::condition::Faults;
 use gear::record::Gear;
 ghost use mathlib.Core.Path.{_≡_};
 ghost use Rattle.calls.specs.Setters.{setEnabledCall, setLampFailureCall, setLampStartingCall, setFaultsCall};
@@ -13,7 +13,7 @@ pub fn set_enabled(gear: Gear, enabled: bool) -> Outcome
 {
     if gear.fit() {
         let mut next = gear;
-        next.enabled = enabled;
+        next.condition.enabled = enabled;
         return done(next);
     }
     refused(gear, Refusal::Unfit)
@@ -24,7 +24,7 @@ pub fn set_lamp_failure(gear: Gear, failure: bool) -> Outcome
 {
     if gear.fit() {
         let mut next = gear;
-        next.lamp.failure = failure;
+        next.condition.lamp.failure = failure;
         return done(next);
     }
     refused(gear, Refusal::Unfit)
@@ -35,7 +35,7 @@ pub fn set_lamp_starting(gear: Gear, starting: bool) -> Outcome
 {
     if gear.fit() {
         let mut next = gear;
-        next.lamp.starting = starting;
+        next.condition.lamp.starting = starting;
         return done(next);
     }
     refused(gear, Refusal::Unfit)
@@ -45,8 +45,10 @@ pub fn set_faults(gear: Gear, faults: Faults) -> Outcome
     ensures { λ r. ⌜ r ≡ setFaultsCall gear faults ⌝ }
 {
     if gear.fit() {
+        let mut condition = gear.condition;
+        condition.faults = faults;
         let mut next = gear;
-        next.faults = faults;
+        next.condition = condition;
         return done(next);
     }
     refused(gear, Refusal::Unfit)

@@ -4,12 +4,13 @@ ghost use mathlib.Core.Path.{_≡_};
 ghost use Rattle.colour.specs.Setting.{mask, masked, factory};
 
 pub struct ColourSetting {
+    // Single bytes first: fourteen bytes without a gap, and sixteen with a level.
     pub kind: u8,
+    pub control: u8,
     pub x: u16,
     pub y: u16,
     pub tc: u16,
     pub levels: [u8; 6],
-    pub control: u8,
 }
 
 impl ColourSetting {

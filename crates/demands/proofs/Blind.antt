@@ -9,10 +9,11 @@ use Rattle.demands.specs.Readings.{after}
 use Rattle.bank.specs.declared.build.Banks.{Banks}
 use Rattle.calls.proofs.Banks.{unbanked, arc-power-blind, query-blind, standard-write-blind}
 use Rattle.calls.proofs.BlindCalls.{blind-calls}
-use Rattle.calls.specs.Memory.{rebanked, withBanks, writeMemoryCall}
+use Rattle.calls.specs.Memory.{rebanked, writeMemoryCall}
 use Rattle.gear.specs.declared.answer.Answer.{Answer}
 use Rattle.gear.specs.declared.answer.Outcome.{Outcome}
 use Rattle.gear.specs.declared.record.Gear.{Gear}
+use Rattle.gear.specs.Parts.{withBanks}
 use Rattle.gear.specs.Record.{fitb}
 use Rattle.gear.specs.Serve.{serve}
 use Rattle.numbers.proofs.Logic.{by-cases}

@@ -33,3 +33,4 @@ pub mod Runs
 pub mod Sessions
 pub mod StepByStep
 pub mod Steps
+pub mod Unwritten

@@ -9,6 +9,7 @@ use Rattle.gear.proofs.profile
 use Rattle.gear.proofs.record
 use Rattle.gear.proofs.scene
 use Rattle.gear.proofs.serve
+use Rattle.gear.proofs.settings
 use Rattle.gear.proofs.write
 
 pub «answer::Refusal::number» : OneOutcome answer.Refusal.number.Reads.Post
@@ -92,17 +93,11 @@ pub «record::Gear::fit» : OneOutcome record.Gear.fit.Reads.Post
 pub «record::Gear::reset_gear» : OneOutcome record.Gear.reset_gear.Reads.Post
 «record::Gear::reset_gear» κs args r r′ e e′ = determined
 
-pub «scene::level_at» : OneOutcome scene.level_at.Reads.Post
-«scene::level_at» κs args r r′ e e′ = determined
+pub «scene::scene_at» : OneOutcome scene.scene_at.Reads.Post
+«scene::scene_at» κs args r r′ e e′ = determined
 
-pub «scene::with_level» : OneOutcome scene.with_level.Reads.Post
-«scene::with_level» κs args r r′ e e′ = determined
-
-pub «scene::colour_at» : OneOutcome scene.colour_at.Reads.Post
-«scene::colour_at» κs args r r′ e e′ = determined
-
-pub «scene::with_colour» : OneOutcome scene.with_colour.Reads.Post
-«scene::with_colour» κs args r r′ e e′ = determined
+pub «scene::with_scene» : OneOutcome scene.with_scene.Reads.Post
+«scene::with_scene» κs args r r′ e e′ = determined
 
 pub «scene::is_member» : OneOutcome scene.is_member.Reads.Post
 «scene::is_member» κs args r r′ e e′ = determined
@@ -112,6 +107,12 @@ pub «scene::with_member» : OneOutcome scene.with_member.Reads.Post
 
 pub «serve::tell» : OneOutcome serve.tell.Reads.Post
 «serve::tell» κs args r r′ e e′ = determined
+
+pub «settings::LevelSetting::unset» : OneOutcome settings.LevelSetting.unset.Reads.Post
+«settings::LevelSetting::unset» κs args r r′ e e′ = determined
+
+pub «settings::store_level_setting» : OneOutcome settings.store_level_setting.Reads.Post
+«settings::store_level_setting» κs args r r′ e e′ = determined
 
 pub «write::apply_standard_write» : OneOutcome write.apply_standard_write.Reads.Post
 «write::apply_standard_write» κs args r r′ e e′ = determined

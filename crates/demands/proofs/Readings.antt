@@ -22,10 +22,11 @@ use Rattle.gear.specs.Command.{levelCommand, configCommand, commandOf}
 use Rattle.gear.specs.Marks.{asked, configured, walkFit}
 use Rattle.gear.specs.Profile.{accepted, fixed, floor, isType, shortFit, unitFit}
 use Rattle.gear.specs.Record.{fitb, freshGear, newGear}
-use Rattle.gear.specs.Scene.{colourAt, levelAt, stored}
+use Rattle.gear.specs.Scene.{sceneAt, stored}
 use Rattle.gear.specs.Serve.{serve, tell}
+use Rattle.gear.specs.Settings.{storeLevelSetting}
 use Rattle.gear.specs.Types.{hasType, member}
-use Rattle.gear.specs.Write.{applyStandardWrite, arcWrite, configWrite, directArcPower, keepsIdentify, recalledLevels, recallScene, setMin, setScene as storeScene, write}
+use Rattle.gear.specs.Write.{applyStandardWrite, arcWrite, configWrite, directArcPower, keepsIdentify, recalledLevels, recallScene, scene, setMin, setScene as storeScene, write}
 use Rattle.level.specs.Arc.{arcLevels, arcPower as arcLevel, levelDown, levelUp, stepDownAndOff as offLevels}
 use Rattle.level.specs.Levels.{held, levelsFit, readjust, readjusts, setLevel, setMaxLevel as maxLevels, setMinLevel as minLevels}
 use Rattle.query.specs.Lamp.{actualLevel, overheated, showsLevel}
@@ -45,7 +46,7 @@ apart : {A : Type 0} {x y : A} (test : A → Bool) → test x ≡ true → test 
 apart test p q e = no-false (sym q ∙ ap test (sym e) ∙ p)
 
 pub readings : Readings perform
-unfolding perform accepted activate activateCall activated actualLevel applyStandardWrite arcLevel arcLevels arcPower arcWrite asked automatic build buildBank0 buildBank1 captured colorValue colorValueCall colourAt colourFit colourStatus colourStatusCall commandOf configCommand configWrite configured deviceType directArcPower effectiveCoolest effectiveWarmest face factory fitb fixed flag floor fresh freshGear gearQueryReply hasType heardQuery held identityLocation isQuery isSettingQuery isStatusQuery isType keepsIdentify kindOf lacksIndicatorByte levelAt levelCommand levelDown levelUp levelsFit liesWithin limitsFit load loadTemporariesFrom locationAnswer maxLevels member memoryLocation memoryLocationCall minLevels newGear next nextAt nextDeviceType offLevels overheated profileLocation profileWritable query readjust readjusts rebanked recall recallScene recalledLevels recoloured reply reported serve setFeaturesCall setLevel settingReply setMin shortFit showsLevel snapped snaps stageCall statusReply storeCoolest storeLimit storeProfile storeScene storeTcLimit storeTcLimitCall storeWarmest stored storedBank strays takeStagedColour tell temperature typeAt unitFit unlinked valueAnswer walkFit withFeatures writable write writeMemoryCall writeMemoryLocation yes
+unfolding perform accepted activate activateCall activated actualLevel applyStandardWrite arcLevel arcLevels arcPower arcWrite asked automatic build buildBank0 buildBank1 captured colorValue colorValueCall colourFit colourStatus colourStatusCall commandOf configCommand configWrite configured deviceType directArcPower effectiveCoolest effectiveWarmest face factory fitb fixed flag floor fresh freshGear gearQueryReply hasType heardQuery held identityLocation isQuery isSettingQuery isStatusQuery isType keepsIdentify kindOf lacksIndicatorByte levelCommand levelDown levelUp levelsFit liesWithin limitsFit load loadTemporariesFrom locationAnswer maxLevels member memoryLocation memoryLocationCall minLevels newGear next nextAt nextDeviceType offLevels overheated profileLocation profileWritable query readjust readjusts rebanked recall recallScene recalledLevels recoloured reply reported sceneAt serve setFeaturesCall setLevel settingReply setMin shortFit showsLevel snapped snaps stageCall statusReply storeCoolest storeLevelSetting storeLimit storeProfile storeScene storeTcLimit storeTcLimitCall storeWarmest stored storedBank strays takeStagedColour tell temperature typeAt unitFit unlinked valueAnswer walkFit withFeatures writable write writeMemoryCall writeMemoryLocation yes
 readings =
     (tt & refl & refl & refl & tt) &
     ((refl & refl & refl & tt) & refl & refl & refl & refl & refl & tt) &
@@ -62,7 +63,7 @@ readings =
     (tt & refl & refl & refl & refl & tt) &
     (tt & refl & refl & refl & tt) &
     (tt & refl & refl & refl & refl & refl & tt) &
-    (((refl, refl) & tt) & apart (λ (g : Gear). eqb (colourAt (g .colours) 0 .tc) 300) refl refl) &
-    ((refl & (refl, refl) & tt) & apart (λ (g : Gear). eqb (colourAt (g .colours) 1 .tc) 300) refl refl) &
+    (((refl, refl) & tt) & apart (λ (g : Gear). eqb (scene g 0 .colour .tc) 300) refl refl) &
+    ((refl & (refl, refl) & tt) & apart (λ (g : Gear). eqb (scene g 1 .colour .tc) 300) refl refl) &
     ((refl & tt) & apart (λ (g : Gear). eqb (g .levels .level) 20) refl refl) &
     tt

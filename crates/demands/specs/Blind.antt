@@ -6,9 +6,9 @@ use Rattle.demands.specs.Calls.{Behaviour, Call}
 use Rattle.demands.specs.Calls.Call.{ReadMemory, WriteMemory, AdvancesDtr0}
 use Rattle.demands.specs.Readings.{after}
 use Rattle.bank.specs.declared.build.Banks.{Banks}
-use Rattle.calls.specs.Memory.{withBanks}
 use Rattle.gear.specs.declared.answer.Outcome.{Outcome}
 use Rattle.gear.specs.declared.record.Gear.{Gear}
+use Rattle.gear.specs.Parts.{withBanks}
 
 -- memory reads, memory writes and `advances_dtr0_past`
 pub data OfBanks : Call → Type 0 where

@@ -12,7 +12,7 @@ use Rattle.calls.specs.Setters.{setEnabledCall, setFaultsCall, setLampFailureCa
 use Rattle.colour.specs.declared.setting.ColourSetting.{ColourSetting}
 use Rattle.gear.specs.declared.answer.Answer.{Answer}
 use Rattle.gear.specs.declared.answer.Outcome.{Outcome}
-use Rattle.gear.specs.declared.record.Faults.{Faults}
+use Rattle.gear.specs.declared.condition.Faults.{Faults}
 use Rattle.gear.specs.declared.record.Gear.{Gear}
 use Rattle.gear.specs.Write.{applyStandardWrite, directArcPower}
 use Rattle.query.specs.Reply.{gearQueryReply}

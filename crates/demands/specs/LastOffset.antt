@@ -16,11 +16,11 @@ use Rattle.bank.proofs.memory
 use Rattle.bank.specs.Build.{withProfile}
 use Rattle.bank.specs.declared.memory.Location.the-variants.{Byte}
 use Rattle.bank.specs.Memory.{stored}
-use Rattle.calls.specs.Memory.{withBanks}
 use Rattle.gear.specs.declared.answer.Answer.{Answer}
 use Rattle.gear.specs.declared.answer.Answer.the-variants.{Done, Value, Nothing, Incapable, Refused}
 use Rattle.gear.specs.declared.answer.Outcome.{Outcome}
 use Rattle.gear.specs.declared.record.Gear.{Gear}
+use Rattle.gear.specs.Parts.{withBanks}
 use Rattle.gear.specs.Serve.{serve, tell}
 use Rattle.numbers.specs.Numbers.{both, pick}
 
@@ -45,7 +45,7 @@ writtenUpTo last g bank offset value =
     pick (mayBeWritten last g bank offset)
     (record {
       answer = Value value;
-      gear = withBanks g (withProfile (g .banks) (stored (g .banks .profile) (g .faults .unstored) offset value));
+      gear = withBanks g (withProfile (g .banks) (stored (g .banks .profile) (g .condition .faults .unstored) offset value));
     })
     (told g Nothing)
 

@@ -10,7 +10,7 @@ use Rattle.gear.specs.declared.answer.Answer.{Answer}
 use Rattle.gear.specs.declared.profile.Profile.{Profile}
 use Rattle.gear.specs.declared.record.Gear.{Gear}
 use Rattle.gear.specs.Record.{newGear}
-use Rattle.gear.specs.Scene.{colourAt}
+use Rattle.gear.specs.Write.{scene}
 
 -- ## What is seen of a record
 
@@ -35,7 +35,7 @@ Seen (Max n) g = g .levels .max ≡ n
 Seen (PhysicalMin n) g = g .unit .minimum ≡ n
 Seen (ActiveTc n) g = (g .colour .active .mode ≡ Cct) × (g .colour .active .tc ≡ n)
 Seen (StagedTc n) g = (g .colour .pending .mode ≡ Cct) × (g .colour .pending .tc ≡ n)
-Seen (SceneTc s n) g = (colourAt (g .colours) s .kind ≡ 0x20) × (colourAt (g .colours) s .tc ≡ n)
+Seen (SceneTc s n) g = (scene g s .colour .kind ≡ 0x20) × (scene g s .colour .tc ≡ n)
 Seen (Limits c w) g = (g .colour .limits .stored .coolest ≡ c) × (g .colour .limits .stored .warmest ≡ w)
 Seen (PhysicalLimits c w) g = (g .colour .limits .physical .coolest ≡ c) × (g .colour .limits .physical .warmest ≡ w)
 Seen (Activation b) g = automatic (g .colour) ≡ b

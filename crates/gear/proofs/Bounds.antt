@@ -14,7 +14,7 @@ use Rattle.gear.specs.Command.{commandOf}
 use Rattle.gear.specs.Profile.{fixed, floor}
 use Rattle.gear.specs.Record.{fitb, resetGear}
 use Rattle.gear.specs.Serve.{serve}
-use Rattle.gear.specs.Write.{sceneLevel, arcWrite, recalledLevels, recallScene, setMin, setScene, removeScene, setPowerOnLevel, setSystemFailureLevel, configWrite, identify, enableWrite, write, applyStandardWrite, directArcPower}
+use Rattle.gear.specs.Write.{scene, arcWrite, recalledLevels, recallScene, setMin, setScene, removeScene, setPowerOnLevel, setSystemFailureLevel, configWrite, identify, enableWrite, write, applyStandardWrite, directArcPower}
 use Rattle.gear.proofs.Fit.{GearFit, facts}
 use Rattle.level.specs.declared.arc.ArcCommand.the-variants.{DirectArcPower}
 use Rattle.level.specs.declared.levels.Levels.{Levels}
@@ -50,7 +50,7 @@ config-bounded g (RemoveFromGroup n) d f b = b
 pub write-bounded : (g : Gear) (k : StandardCommand) (d : ℕ) → GearFit g → Bounded (g .levels) → Bounded (write g k d .gear .levels)
 unfolding write arcWrite recallScene identify enableWrite resetGear
 write-bounded g (Arc a) d f b = LevelBounds.arc-bounded (g .levels) a (f .levels .order) b
-write-bounded g (GoToScene s) d f b = recalled-bounded (g .levels) (sceneLevel g s) (f .levels .order) b
+write-bounded g (GoToScene s) d f b = recalled-bounded (g .levels) (scene g s .level) (f .levels .order) b
 write-bounded g Reset d f b = inl refl
 write-bounded g IdentifyDevice d f b = b
 write-bounded g (Config k) d f b = config-bounded g k d f b

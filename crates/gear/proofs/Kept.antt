@@ -15,7 +15,8 @@ use Rattle.gear.specs.Marks.{asked, configured, identified, enabled, wal
 use Rattle.gear.specs.Profile.{floor, fixed}
 use Rattle.gear.specs.Record.{fitb, resetGear}
 use Rattle.gear.specs.Serve.{serve}
-use Rattle.gear.specs.Write.{sceneLevel, sceneColour, arcWrite, recalledLevels, recallScene, setMin, setScene, removeScene, setPowerOnLevel, setSystemFailureLevel, configWrite, identify, enableWrite, write, applyStandardWrite, directArcPower, keepsIdentify}
+use Rattle.gear.specs.Settings.{storeLevelSetting}
+use Rattle.gear.specs.Write.{scene, arcWrite, recalledLevels, recallScene, setMin, setScene, removeScene, setPowerOnLevel, setSystemFailureLevel, configWrite, identify, enableWrite, write, applyStandardWrite, directArcPower, keepsIdentify}
 use Rattle.gear.proofs.Fit.{GearFit, facts, fit, floor-low}
 use Rattle.colour.specs.Staging.{takeStagedColour}
 use Rattle.colour.proofs.Kept as ColourKept
@@ -41,8 +42,8 @@ unfolding recallScene asked walkFit
 recall-kept g s f =
     record {
       unit = f .unit;
-      levels = recalled-kept (sceneLevel g s) (f .levels);
-      colour = ColourKept.recall-kept (sceneColour g s) (f .colour);
+      levels = recalled-kept (scene g s .level) (f .levels);
+      colour = ColourKept.recall-kept (scene g s .colour) (f .colour);
       walk = refl;
     }
 
@@ -51,24 +52,24 @@ unfolding setMin
 set-min-kept g v f = by-cases (fixed (g .unit)) (λ e. rw e (f .levels)) (λ e. rw e (LevelFit.set-min-kept v (f .levels)))
 
 config-kept : (g : Gear) (k : ConfigCommand) (d : ℕ) → GearFit g → GearFit (configWrite g k d)
-unfolding configWrite configured walkFit setScene removeScene setPowerOnLevel setSystemFailureLevel
+unfolding configWrite configured walkFit setScene removeScene setPowerOnLevel setSystemFailureLevel storeLevelSetting
 config-kept g SetMaxLevel d f =
     record { unit = f .unit; levels = LevelFit.set-max-kept d (f .levels); colour = f .colour; walk = refl }
 config-kept g SetMinLevel d f = record { unit = f .unit; levels = set-min-kept g d f; colour = f .colour; walk = refl }
 config-kept g SetSystemFailureLevel d f =
-    record { unit = f .unit; levels = f .levels; colour = ColourKept.take-staged-kept (g .failure .colour) (f .colour); walk = refl }
+    record { unit = f .unit; levels = f .levels; colour = ColourKept.take-staged-kept (g .settings .failure .colour) (f .colour); walk = refl }
 config-kept g SetPowerOnLevel d f =
-    record { unit = f .unit; levels = f .levels; colour = ColourKept.take-staged-kept (g .on .colour) (f .colour); walk = refl }
+    record { unit = f .unit; levels = f .levels; colour = ColourKept.take-staged-kept (g .settings .on .colour) (f .colour); walk = refl }
 config-kept g SetFadeTime d f = record { unit = f .unit; levels = f .levels; colour = f .colour; walk = refl }
 config-kept g SetFadeRate d f = record { unit = f .unit; levels = f .levels; colour = f .colour; walk = refl }
 config-kept g SetExtendedFadeTime d f = record { unit = f .unit; levels = f .levels; colour = f .colour; walk = refl }
 config-kept g (SetScene s) d f =
-    record { unit = f .unit; levels = f .levels; colour = ColourKept.take-staged-kept (sceneColour g s) (f .colour); walk = refl }
+    record { unit = f .unit; levels = f .levels; colour = ColourKept.take-staged-kept (scene g s .colour) (f .colour); walk = refl }
 config-kept g (RemoveScene s) d f = record { unit = f .unit; levels = f .levels; colour = f .colour; walk = refl }
 config-kept g (AddToGroup n) d f = record { unit = f .unit; levels = f .levels; colour = f .colour; walk = refl }
 config-kept g (RemoveFromGroup n) d f = record { unit = f .unit; levels = f .levels; colour = f .colour; walk = refl }
 
-reset-kept : (g : Gear) → GearFit g → GearFit (resetGear (g .unit) (g .enabled) (g .faults) (g .colour))
+reset-kept : (g : Gear) → GearFit g → GearFit (resetGear (g .unit) (g .condition) (g .colour))
 unfolding resetGear walkFit
 reset-kept g f =
     let m = floor-low 16 (g .unit) (f .unit) in

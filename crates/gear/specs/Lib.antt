@@ -1,9 +1,12 @@
 pub mod Answer
 pub mod Command
+pub mod Condition
 pub mod Marks
+pub mod Parts
 pub mod Profile
 pub mod Record
 pub mod Scene
 pub mod Serve
+pub mod Settings
 pub mod Types
 pub mod Write

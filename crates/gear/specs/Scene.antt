@@ -4,19 +4,16 @@ use mathlib.Core.Bool.{Bool, false}
 use mathlib.Core.List.{List, []}
 use lib.Dec.{leb}
 use lib.ListN.{getD, set}
-use Rattle.colour.specs.declared.setting.ColourSetting.{ColourSetting}
-use Rattle.colour.specs.Setting.{mask}
+use Rattle.gear.specs.declared.settings.LevelSetting.{LevelSetting}
+use Rattle.gear.specs.Settings.{unset}
 use Rattle.numbers.specs.Numbers.{pick}
 
-unfoldable pub levelAt : List ℕ → ℕ → ℕ
-levelAt scenes s = pick (leb 16 s) 255 (getD scenes s 0)
-
 -- what stands past the end of a list; of sixteen entries no scene is there
-abbrev pub nowhere : ColourSetting
-nowhere = record { kind = 0; x = 0; y = 0; tc = 0; levels = []; control = 0 }
+abbrev pub nowhere : LevelSetting
+nowhere = record { level = 0; colour = record { kind = 0; x = 0; y = 0; tc = 0; levels = []; control = 0 } }
 
-unfoldable pub colourAt : List ColourSetting → ℕ → ColourSetting
-colourAt colours s = pick (leb 16 s) mask (getD colours s nowhere)
+unfoldable pub sceneAt : List LevelSetting → ℕ → LevelSetting
+sceneAt scenes s = pick (leb 16 s) unset (getD scenes s nowhere)
 
 unfoldable pub memberAt : List Bool → ℕ → Bool
 memberAt groups g = pick (leb 16 g) false (getD groups g false)

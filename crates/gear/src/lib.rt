@@ -2,11 +2,13 @@
 // record that follows, with an answer or a refusal. No call asks anything of its arguments.
 pub mod answer;
 pub mod command;
+pub mod condition;
 pub mod marks;
 pub mod parts;
 pub mod profile;
 pub mod record;
 pub mod scene;
 pub mod serve;
+pub mod settings;
 pub mod types;
 pub mod write;

@@ -1,6 +1,6 @@
 // What a write makes of one part of the record.
 use crate::profile::Unit;
-use crate::record::SCENE_UNSET;
+use crate::settings::SCENE_UNSET;
 use level::arc::ArcCommand;
 use level::levels::Levels;
 ghost use mathlib.Core.Path.{_≡_};

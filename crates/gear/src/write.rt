@@ -11,21 +11,17 @@ use crate::parts::keeps_identify;
 use crate::parts::recalled_levels;
 use crate::parts::set_min;
 use crate::record::Gear;
-use crate::record::LevelSetting;
-use crate::record::SCENE_UNSET;
-use crate::scene::colour_at;
-use crate::scene::level_at;
-use crate::scene::with_colour;
-use crate::scene::with_level;
+use crate::scene::scene_at;
 use crate::scene::with_member;
+use crate::scene::with_scene;
+use crate::settings::LevelSetting;
+use crate::settings::store_level_setting;
 use colour::activation::arc_power_activation;
 use colour::activation::recall;
-use colour::setting::ColourSetting;
-use colour::staging::take_staged_colour;
 use level::arc::ArcCommand;
 use level::arc::apply_arc;
 ghost use mathlib.Core.Path.{_≡_};
-ghost use Rattle.gear.specs.Write.{arcWrite, recallScene, setScene, removeScene, setPowerOnLevel, setSystemFailureLevel, configWrite, identify, enableWrite, write, applyStandardWrite, directArcPower};
+ghost use Rattle.gear.specs.Write.{arcWrite, recallScene, setScene, removeScene, setPowerOnLevel, setSystemFailureLevel, setMember, configWrite, identify, enableWrite, write, applyStandardWrite, directArcPower};
 
 fn arc_write(gear: Gear, command: ArcCommand) -> Gear
     ensures { λ r. ⌜ r ≡ arcWrite gear command ⌝ }
@@ -48,30 +44,27 @@ fn recall_scene(gear: Gear, scene: u8) -> Gear
     let marks = gear.marks;
     let colour = gear.colour;
     let scenes = gear.scenes;
-    let colours = gear.colours;
+    let entry = scene_at(scenes, scene);
+    let setting = entry.colour;
     let mut next = gear;
     next.marks = marks.asked(false);
-    next.colour = recall(colour, colour_at(colours, scene));
-    next.levels = recalled_levels(levels, level_at(scenes, scene));
+    next.colour = recall(colour, setting);
+    next.levels = recalled_levels(levels, entry.level);
     next
 }
 
-// Part 209, 9.11.4: the level, and the staged colour where there is one.
+// Part 209, 9.11.4: the level with the staged colour.
 fn set_scene(gear: Gear, scene: u8, level: u8) -> Gear
     ensures { λ r. ⌜ r ≡ setScene gear scene level ⌝ }
 {
-    let colour = gear.colour;
     let scenes = gear.scenes;
-    let colours = gear.colours;
-    let taken = take_staged_colour(colour, colour_at(colours, scene));
-    let setting = taken.setting;
-    let unstaged = taken.colour;
+    let stored = store_level_setting(scene_at(scenes, scene), level, gear.colour);
+    let entry = stored.setting;
+    let rest = stored.colour;
+    let entries = with_scene(scenes, scene, entry);
     let mut next = gear;
-    let levels = with_level(scenes, scene, level);
-    let settings = with_colour(colours, scene, setting);
-    next.scenes = levels;
-    next.colours = settings;
-    next.colour = unstaged;
+    next.scenes = entries;
+    next.colour = rest;
     next
 }
 
@@ -79,12 +72,9 @@ fn remove_scene(gear: Gear, scene: u8) -> Gear
     ensures { λ r. ⌜ r ≡ removeScene gear scene ⌝ }
 {
     let scenes = gear.scenes;
-    let colours = gear.colours;
+    let entries = with_scene(scenes, scene, LevelSetting::unset());
     let mut next = gear;
-    let levels = with_level(scenes, scene, SCENE_UNSET);
-    let settings = with_colour(colours, scene, ColourSetting::mask());
-    next.scenes = levels;
-    next.colours = settings;
+    next.scenes = entries;
     next
 }
 
@@ -92,17 +82,13 @@ fn remove_scene(gear: Gear, scene: u8) -> Gear
 fn set_power_on_level(gear: Gear, level: u8) -> Gear
     ensures { λ r. ⌜ r ≡ setPowerOnLevel gear level ⌝ }
 {
-    let colour = gear.colour;
-    let kept = gear.on.colour;
-    let taken = take_staged_colour(colour, kept);
-    let setting = taken.setting;
-    let rest = taken.colour;
+    let stored = store_level_setting(gear.settings.on, level, gear.colour);
+    let setting = stored.setting;
+    let rest = stored.colour;
+    let mut settings = gear.settings;
+    settings.on = setting;
     let mut next = gear;
-    let stored = LevelSetting {
-        level: level,
-        colour: setting,
-    };
-    next.on = stored;
+    next.settings = settings;
     next.colour = rest;
     next
 }
@@ -111,18 +97,26 @@ fn set_power_on_level(gear: Gear, level: u8) -> Gear
 fn set_system_failure_level(gear: Gear, level: u8) -> Gear
     ensures { λ r. ⌜ r ≡ setSystemFailureLevel gear level ⌝ }
 {
-    let colour = gear.colour;
-    let kept = gear.failure.colour;
-    let taken = take_staged_colour(colour, kept);
-    let setting = taken.setting;
-    let rest = taken.colour;
+    let stored = store_level_setting(gear.settings.failure, level, gear.colour);
+    let setting = stored.setting;
+    let rest = stored.colour;
+    let mut settings = gear.settings;
+    settings.failure = setting;
     let mut next = gear;
-    let stored = LevelSetting {
-        level: level,
-        colour: setting,
-    };
-    next.failure = stored;
+    next.settings = settings;
     next.colour = rest;
+    next
+}
+
+fn set_member(gear: Gear, group: u8, member: bool) -> Gear
+    ensures { λ r. ⌜ r ≡ setMember gear group member ⌝ }
+{
+    let mut settings = gear.settings;
+    let groups = settings.groups;
+    let members = with_member(groups, group, member);
+    settings.groups = members;
+    let mut next = gear;
+    next.settings = settings;
     next
 }
 
@@ -131,7 +125,6 @@ fn config_write(gear: Gear, command: ConfigCommand, dtr0: u8) -> Gear
 {
     let levels = gear.levels;
     let marks = gear.marks;
-    let groups = gear.groups;
     let unit = gear.unit;
     let mut next = gear;
     next.marks = marks.configured();
@@ -147,30 +140,22 @@ fn config_write(gear: Gear, command: ConfigCommand, dtr0: u8) -> Gear
         ConfigCommand::SetSystemFailureLevel => set_system_failure_level(next, dtr0),
         ConfigCommand::SetPowerOnLevel => set_power_on_level(next, dtr0),
         ConfigCommand::SetFadeTime => {
-            next.fades.time = dtr0;
+            next.settings.fades.time = dtr0;
             next
         }
         ConfigCommand::SetFadeRate => {
-            next.fades.rate = dtr0;
+            next.settings.fades.rate = dtr0;
             next
         }
         ConfigCommand::SetExtendedFadeTime => {
             let time = extended_fade(dtr0);
-            next.fades.extended = time;
+            next.settings.fades.extended = time;
             next
         }
         ConfigCommand::SetScene(scene) => set_scene(next, scene, dtr0),
         ConfigCommand::RemoveScene(scene) => remove_scene(next, scene),
-        ConfigCommand::AddToGroup(group) => {
-            let members = with_member(groups, group, true);
-            next.groups = members;
-            next
-        }
-        ConfigCommand::RemoveFromGroup(group) => {
-            let members = with_member(groups, group, false);
-            next.groups = members;
-            next
-        }
+        ConfigCommand::AddToGroup(group) => set_member(next, group, true),
+        ConfigCommand::RemoveFromGroup(group) => set_member(next, group, false),
     }
 }
 
@@ -198,9 +183,7 @@ fn write(gear: Gear, command: StandardCommand, dtr0: u8) -> Outcome
     match command {
         StandardCommand::Arc(arc) => done(arc_write(gear, arc)),
         StandardCommand::GoToScene(scene) => done(recall_scene(gear, scene)),
-        StandardCommand::Reset => {
-            done(Gear::reset_gear(gear.unit, gear.enabled, gear.faults, gear.colour))
-        }
+        StandardCommand::Reset => { done(Gear::reset_gear(gear.unit, gear.condition, gear.colour)) }
         StandardCommand::IdentifyDevice => done(identify(gear)),
         StandardCommand::Config(config) => done(config_write(gear, config, dtr0)),
         StandardCommand::EnableWriteMemory => done(enable_write(gear)),

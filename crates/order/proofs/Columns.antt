@@ -7,17 +7,18 @@ use mathlib.Core.Option.{Option, none, some}
 use lib.Dec.{eqb, leb}
 use Rattle.order.specs.Keys.{Key, Disjoint}
 use Rattle.order.specs.Keys.Key.{Level, Colour as ColourKey, FadeTime, FadeRate, ExtendedFade, PowerOn, SystemFailure, Bank1, Scene, Group}
-use Rattle.order.specs.Carry.{colourStep, does, readColour, readLevel, settled, storeColour, storeGroup, storeLevel}
+use Rattle.order.specs.Carry.{colourStep, does, readScene, settled, storeGroup, storeScene}
 use Rattle.order.specs.Rows.{ColourStep, GroupSlot, Row, SceneSlot, columns, groupKeys, has, joined, sceneKeys}
 use Rattle.order.specs.Rows.ColourStep.{Tc, Xy, Limit, Activated, SceneColour}
 use Rattle.order.specs.Rows.GroupSlot.{NoGroup, Member}
 use Rattle.order.specs.Rows.SceneSlot.{NoScene, At}
-use Rattle.order.proofs.Slots.{Differ, colour-elsewhere, level-elsewhere, store-swap, stored-swap}
+use Rattle.order.proofs.Slots.{Differ, store-elsewhere, store-swap, stored-swap}
 use Rattle.colour.specs.Activation.{activate, activated, strays}
 use Rattle.colour.specs.declared.record.Colour.{Colour}
 use Rattle.colour.specs.declared.setting.ColourSetting.{ColourSetting}
 use Rattle.colour.specs.Staging.{load, loadTemporariesFrom}
 use Rattle.colour.specs.Steps.{storeTcLimit, tcStep, xyStep}
+use Rattle.gear.specs.declared.settings.LevelSetting.{LevelSetting}
 use Rattle.numbers.specs.Numbers.{pick}
 use Rattle.numbers.proofs.Logic.{by-cases}
 
@@ -88,33 +89,21 @@ group-swap NoGroup (Member m v) d xs = refl
 group-swap (Member n u) NoGroup d xs = refl
 group-swap (Member n u) (Member m v) d xs = stored-swap xs n m u v (differ Group n m d)
 
-pub level-swap : (a b : SceneSlot) → Disjoint (sceneKeys a) (sceneKeys b) → (xs : List ℕ) → storeLevel b (storeLevel a xs) ≡ storeLevel a (storeLevel b xs)
-level-swap NoScene NoScene d xs = refl
-level-swap NoScene (At m v y) d xs = refl
-level-swap (At n u x) NoScene d xs = refl
-level-swap (At n u x) (At m v y) d xs = store-swap xs n m u v (differ Scene n m d)
-
-pub colour-swap :
-    (a b : SceneSlot) → Disjoint (sceneKeys a) (sceneKeys b) → (xs : List ColourSetting) →
-    storeColour b (storeColour a xs) ≡ storeColour a (storeColour b xs)
-colour-swap NoScene NoScene d xs = refl
-colour-swap NoScene (At m v y) d xs = refl
-colour-swap (At n u x) NoScene d xs = refl
-colour-swap (At n u x) (At m v y) d xs = store-swap xs n m x y (differ Scene n m d)
+pub scene-swap :
+    (a b : SceneSlot) → Disjoint (sceneKeys a) (sceneKeys b) → (xs : List LevelSetting) →
+    storeScene b (storeScene a xs) ≡ storeScene a (storeScene b xs)
+scene-swap NoScene NoScene d xs = refl
+scene-swap NoScene (At m v) d xs = refl
+scene-swap (At n u) NoScene d xs = refl
+scene-swap (At n u) (At m v) d xs = store-swap xs n m u v (differ Scene n m d)
 
 -- a row reads its own scene as it was before another row
-pub read-level : (a b : SceneSlot) → Disjoint (sceneKeys a) (sceneKeys b) → (xs : List ℕ) → readLevel a (storeLevel b xs) ≡ readLevel a xs
-read-level NoScene NoScene d xs = refl
-read-level NoScene (At m v y) d xs = refl
-read-level (At n u x) NoScene d xs = refl
-read-level (At n u x) (At m v y) d xs = level-elsewhere xs n m v (differ Scene n m d)
-
-pub read-colour :
-    (a b : SceneSlot) → Disjoint (sceneKeys a) (sceneKeys b) → (xs : List ColourSetting) → readColour a (storeColour b xs) ≡ readColour a xs
-read-colour NoScene NoScene d xs = refl
-read-colour NoScene (At m v y) d xs = refl
-read-colour (At n u x) NoScene d xs = refl
-read-colour (At n u x) (At m v y) d xs = colour-elsewhere xs n m y (differ Scene n m d)
+pub read-scene :
+    (a b : SceneSlot) → Disjoint (sceneKeys a) (sceneKeys b) → (xs : List LevelSetting) → readScene a (storeScene b xs) ≡ readScene a xs
+read-scene NoScene NoScene d xs = refl
+read-scene NoScene (At m v) d xs = refl
+read-scene (At n u) NoScene d xs = refl
+read-scene (At n u) (At m v) d xs = store-elsewhere xs n m v (differ Scene n m d)
 
 -- ---- marks and staged control: what is cleared twice is cleared in either order
 

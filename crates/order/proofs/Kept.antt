@@ -5,7 +5,7 @@ use mathlib.Core.Option.{Option, none, some}
 use lib.Dec.{eqb, leb}
 use Rattle.order.specs.Keys.{Keyed}
 use Rattle.order.specs.Premises.{Ready}
-use Rattle.order.specs.Carry.{carry, colourStep, does, readColour, settled}
+use Rattle.order.specs.Carry.{carry, colourStep, does, readScene, settled}
 use Rattle.order.specs.Rows.{ColourStep, Row}
 use Rattle.order.specs.Rows.ColourStep.{Tc, Xy, Limit, Activated, SceneColour}
 use Rattle.order.specs.Table.{row}
@@ -53,7 +53,7 @@ does-calm s (some k) c h = step-calm s k c h
 
 carry-calm : (r : Row) (g : Gear) → Calm (g .colour) → Calm (carry r g .colour)
 unfolding carry
-carry-calm r g h = does-calm (readColour (r .scene) (g .colours)) (r .colour) _ (settled-calm (r .settles) (g .colour) h)
+carry-calm r g h = does-calm (readScene (r .scene) (g .scenes) .colour) (r .colour) _ (settled-calm (r .settles) (g .colour) h)
 
 -- ---- fit
 

@@ -16,7 +16,7 @@ use Rattle.calls.specs.Colours.{recoloured, setFeaturesCall, stageCall}
 use Rattle.colour.specs.Activation.{activate, activated, arcPower, automatic, recall, strays}
 use Rattle.colour.specs.Limits.{effectiveCoolest, effectiveWarmest, limitsFit}
 use Rattle.colour.specs.Record.{fitb as colourFit, fresh, withFeatures}
-use Rattle.colour.specs.Setting.{factory, mask}
+use Rattle.colour.specs.Setting.{factory}
 use Rattle.colour.specs.Staging.{load, loadTemporariesFrom, takeStagedColour}
 use Rattle.colour.specs.Tint.{captured, liesWithin}
 use Rattle.demands.specs.Calls.{perform as performCall}
@@ -26,8 +26,9 @@ use Rattle.gear.specs.declared.record.Gear.{Gear}
 use Rattle.gear.specs.Marks.{asked, configured, identified, walkFit}
 use Rattle.gear.specs.Profile.{accepted, floor, isType, shortFit, unitFit}
 use Rattle.gear.specs.Record.{fitb, freshGear}
-use Rattle.gear.specs.Scene.{colourAt, levelAt, stored}
+use Rattle.gear.specs.Scene.{sceneAt, stored}
 use Rattle.gear.specs.Serve.{serve}
+use Rattle.gear.specs.Settings.{storeLevelSetting, unset}
 use Rattle.gear.specs.Types.{hasType, member}
 use Rattle.gear.specs.Write.{applyStandardWrite, arcWrite, configWrite, directArcPower, identify, keepsIdentify, recalledLevels, recallScene, setScene, write}
 use Rattle.level.specs.Arc.{arcLevels, arcPower as arcLevel}
@@ -41,7 +42,7 @@ told-apart f g h n m p q d e = d (sym p ∙ ap f e ∙ q)
 -- ---- P11: with 300 staged, SetScene 0 and SetScene 1
 
 pub staged-matters : StagedMatters staged (Standard 64 10 ∷ Standard 65 20 ∷ []) (Standard 65 20 ∷ Standard 64 10 ∷ [])
-unfolding run perform performCall callOf keys commandKeys configKeys commandOf levelCommand configCommand applyStandardWrite write configWrite setScene takeStagedColour captured stored colourAt stageCall recoloured loadTemporariesFrom load configured serve fitb freshGear fresh factory unitFit shortFit floor isType hasType member levelsFit colourFit limitsFit effectiveCoolest effectiveWarmest liesWithin walkFit automatic
+unfolding run perform performCall callOf keys commandKeys configKeys commandOf levelCommand configCommand applyStandardWrite write configWrite setScene storeLevelSetting takeStagedColour captured stored sceneAt stageCall recoloured loadTemporariesFrom load configured serve fitb freshGear fresh factory unitFit shortFit floor isType hasType member levelsFit colourFit limitsFit effectiveCoolest effectiveWarmest liesWithin walkFit automatic
 staged-matters =
     record {
       fit = fit-exactly _ .1 refl;
@@ -50,7 +51,7 @@ staged-matters =
       differ =
           record {
             order = List·Permᴰ·swap refl refl;
-            different = told-apart (λ g. getD (g .colours) 0 mask .kind) _ _ 0x20 0xFF refl refl (λ e. omega arith);
+            different = told-apart (λ g. getD (g .scenes) 0 unset .colour .kind) _ _ 0x20 0xFF refl refl (λ e. omega arith);
           };
     }
 
@@ -58,7 +59,7 @@ staged-matters =
 -- leave nothing staged, so that activation is the only premise that fails
 
 pub activation-matters : ActivationMatters manual (Standard 16 0 ∷ Standard 65 20 ∷ []) (Standard 65 20 ∷ Standard 16 0 ∷ [])
-unfolding run perform performCall callOf keys commandKeys configKeys commandOf levelCommand configCommand applyStandardWrite write configWrite setScene takeStagedColour captured stored colourAt levelAt stageCall setFeaturesCall withFeatures recoloured loadTemporariesFrom load configured recallScene recalledLevels recall asked setLevel held serve fitb freshGear fresh factory unitFit shortFit floor isType hasType member levelsFit colourFit limitsFit effectiveCoolest effectiveWarmest liesWithin walkFit arcPower automatic activate activated strays
+unfolding run perform performCall callOf keys commandKeys configKeys commandOf levelCommand configCommand applyStandardWrite write configWrite setScene storeLevelSetting takeStagedColour captured stored sceneAt stageCall setFeaturesCall withFeatures recoloured loadTemporariesFrom load configured recallScene recalledLevels recall asked setLevel held serve fitb freshGear fresh factory unitFit shortFit floor isType hasType member levelsFit colourFit limitsFit effectiveCoolest effectiveWarmest liesWithin walkFit arcPower automatic activate activated strays
 activation-matters =
     record {
       fit = fit-exactly _ .1 refl;
@@ -67,7 +68,7 @@ activation-matters =
       differ =
           record {
             order = List·Permᴰ·swap refl refl;
-            different = told-apart (λ g. getD (g .colours) 1 mask .kind) _ _ 0x20 0xFF refl refl (λ e. omega arith);
+            different = told-apart (λ g. getD (g .scenes) 1 unset .colour .kind) _ _ 0x20 0xFF refl refl (λ e. omega arith);
           };
     }
 

@@ -16,7 +16,7 @@ use Rattle.calls.specs.Colours.{activateCall, recoloured, stageCall}
 use Rattle.colour.specs.Activation.{activate, activated, automatic, recall, strays}
 use Rattle.colour.specs.Limits.{effectiveCoolest, effectiveWarmest, limitsFit}
 use Rattle.colour.specs.Record.{fitb as colourFit, fresh, withFeatures}
-use Rattle.colour.specs.Setting.{factory, mask}
+use Rattle.colour.specs.Setting.{factory}
 use Rattle.colour.specs.Staging.{load, loadTemporariesFrom}
 use Rattle.colour.specs.Tint.{liesWithin}
 use Rattle.demands.proofs.Fit.{fit-exactly}
@@ -27,8 +27,9 @@ use Rattle.gear.specs.declared.profile.Profile.{Profile}
 use Rattle.gear.specs.Marks.{walkFit}
 use Rattle.gear.specs.Profile.{accepted, floor, isType, shortFit, unitFit}
 use Rattle.gear.specs.Record.{fitb, freshGear}
-use Rattle.gear.specs.Scene.{colourAt, nowhere}
+use Rattle.gear.specs.Scene.{nowhere, sceneAt}
 use Rattle.gear.specs.Serve.{serve}
+use Rattle.gear.specs.Settings.{unset}
 use Rattle.gear.specs.Types.{hasType, member}
 use Rattle.gear.proofs.Built.{fresh-fit}
 use Rattle.level.specs.Levels.{levelsFit}
@@ -36,13 +37,13 @@ use Rattle.numbers.proofs.Logic.{by-cases}
 
 -- ---- a fresh gear
 
-no-colour : (s : ℕ) → colourAt (replicate 16 mask) s ≡ mask
-unfolding colourAt
-no-colour s = by-cases (leb 16 s) (λ e. rw e) (λ e. rw e (getD-replicate 16 s mask nowhere (leb-false 16 s e)))
+no-scene : (s : ℕ) → sceneAt (replicate 16 unset) s ≡ unset
+unfolding sceneAt
+no-scene s = by-cases (leb 16 s) (λ e. rw e) (λ e. rw e (getD-replicate 16 s unset nowhere (leb-false 16 s e)))
 
 scene-clean : (p : Profile) (s : ℕ) → RecallsClean (freshGear p) s
 unfolding recall withFeatures freshGear fresh
-scene-clean p s = rw (no-colour s)
+scene-clean p s = rw (no-scene s)
 
 command-clean : (p : Profile) (k : StandardCommand) → CommandClean (freshGear p) k
 command-clean p (GoToScene s) = scene-clean p s

@@ -80,7 +80,7 @@ banks-kept : (v : Write) (bank offset x : ℕ) (g : Gear) → Keyed v → NoShar
 unfolding carry keys row
 banks-kept v bank offset x g k d h =
     let apart = parted (row v) (row (Memory bank offset x)) (subst (λ ks. Disjoint ks (Bank1 ∷ [])) (tied v) d) in
-    ap (λ y. y .banks) (rowed v g k h) ∙ unbanked (storeByte (g .faults .unstored)) (row v .bank) (g .banks) (apart .bank)
+    ap (λ y. y .banks) (rowed v g k h) ∙ unbanked (storeByte (g .condition .faults .unstored)) (row v .bank) (g .banks) (apart .bank)
 
 reply-beside : (v w : Write) (g : Gear) → Keyed v → NoSharedKey v w → Ready g → reply w (after v g .banks) ≡ reply w (g .banks)
 reply-beside v (ArcPower x) g k d h = refl

@@ -2,15 +2,14 @@
 use Prim.Native.Nat.{ℕ}
 use mathlib.Core.Path.{_≡_, refl, _∙_, ap}
 use mathlib.Core.Bool.{Bool, true, false}
-use mathlib.Core.List.{List, []}
+use mathlib.Core.List.{[]}
 use Rattle.order.specs.Keys.{Keyed, commandKeys, keys}
 use Rattle.order.specs.Premises.{Ready}
-use Rattle.order.specs.Carry.{carry, colourStep, marked, settled}
+use Rattle.order.specs.Carry.{carry, colourStep, marked, setLevelOf, settled}
 use Rattle.order.specs.Rows.ColourStep.{SceneColour}
 use Rattle.order.specs.Table.{arcRow, asking, commandRow, configRow, row}
 use Rattle.order.specs.Writes.{Write, after, callOf, perform}
 use Rattle.order.specs.Writes.Write.{ArcPower, Standard, TcStep, XyStep, TcLimit, Activation, Memory}
-use Rattle.order.proofs.Slots.{store-own}
 use Rattle.calls.specs.Colours.{activateCall, recoloured, storeTcLimitCall, tcStepCall, xyStepCall}
 use Rattle.calls.specs.Memory.{rebanked, writeMemoryCall}
 use Rattle.colour.specs.Activation.{arcPower, automatic, recall}
@@ -30,11 +29,12 @@ use Rattle.gear.specs.declared.command.StandardCommand.{StandardCommand}
 use Rattle.gear.specs.declared.command.StandardCommand.the-variants.{Arc, GoToScene, Reset, IdentifyDevice, Config, EnableWriteMemory, Unknown}
 use Rattle.gear.specs.declared.marks.Marks.{Marks}
 use Rattle.gear.specs.declared.record.Gear.{Gear}
-use Rattle.gear.specs.declared.record.LevelSetting.{LevelSetting}
+use Rattle.gear.specs.declared.settings.LevelSetting.{LevelSetting}
 use Rattle.gear.specs.Marks.{asked, configured, enabled}
-use Rattle.gear.specs.Scene.{stored}
+use Rattle.gear.specs.Parts.{withLight, withMarks}
 use Rattle.gear.specs.Serve.{serve}
-use Rattle.gear.specs.Write.{applyStandardWrite, arcWrite, configWrite, directArcPower, enableWrite, keepsIdentify, levelSetting, recallScene, recalledLevels, removeScene, sceneColour, sceneLevel, setMin, setPowerOnLevel, setScene, setSystemFailureLevel, withLight, write}
+use Rattle.gear.specs.Settings.{storeLevelSetting}
+use Rattle.gear.specs.Write.{applyStandardWrite, arcWrite, configWrite, directArcPower, enableWrite, keepsIdentify, putFailure, putOn, putScene, recallScene, recalledLevels, removeScene, scene, setMin, setPowerOnLevel, setScene, setSystemFailureLevel, write}
 use Rattle.level.specs.Arc.{arcLevels}
 use Rattle.level.specs.declared.arc.ArcCommand.{ArcCommand}
 use Rattle.level.specs.declared.arc.ArcCommand.the-variants.{DirectArcPower}
@@ -49,13 +49,11 @@ recalls : (c : Colour) (s : ColourSetting) → automatic c ≡ true → recall c
 unfolding recall arcPower automatic loadTemporariesFrom
 recalls c s a = rw a
 
-takes-setting : (c : Colour) (kept : ColourSetting) → c .pending .mode ≡ None → takeStagedColour c kept .setting ≡ kept
-unfolding takeStagedColour
-takes-setting c kept e = rw e
-
-takes-colour : (c : Colour) (kept : ColourSetting) → c .pending .mode ≡ None → takeStagedColour c kept .colour ≡ c
-unfolding takeStagedColour
-takes-colour c kept e = rw e
+-- a setting gets its level and keeps its colour
+stores :
+    (x : LevelSetting) (d : ℕ) (c : Colour) → c .pending .mode ≡ None → storeLevelSetting x d c ≡ record { setting = setLevelOf d x; colour = c }
+unfolding storeLevelSetting takeStagedColour
+stores x d c e = rw e
 
 -- ---- the marks
 
@@ -74,46 +72,22 @@ arc-rowed g a h = λ i.
 scene-rowed : (g : Gear) (s d : ℕ) → Ready g → recallScene g s ≡ carry (commandRow (GoToScene s) d) g
 unfolding recallScene carry commandRow
 scene-rowed g s d h = λ i.
-    withLight g (recalledLevels (g .levels) (sceneLevel g s)) (asked-marked (g .marks) false i)
-    (recalls (g .colour) (sceneColour g s) (h .activates) i)
+    withLight g (recalledLevels (g .levels) (scene g s .level)) (asked-marked (g .marks) false i)
+    (recalls (g .colour) (scene g s .colour) (h .activates) i)
 
--- a record after a setting, with the parts that a staged colour could reach
-abbrev set : Gear → (on failure : LevelSetting) → List ℕ → List ColourSetting → Colour → Gear
-set g on failure scenes colours c =
-    record {
-      unit = g .unit;
-      enabled = g .enabled;
-      levels = g .levels;
-      marks = configured (g .marks);
-      on = on;
-      failure = failure;
-      fades = g .fades;
-      groups = g .groups;
-      scenes = scenes;
-      colours = colours;
-      lamp = g .lamp;
-      faults = g .faults;
-      curve = g .curve;
-      colour = c;
-      banks = g .banks;
-    }
+abbrev set : Gear → Gear
+set g = withMarks g (configured (g .marks))
 
 config-rowed : (g : Gear) (k : ConfigCommand) (d : ℕ) → Ready g → configWrite g k d ≡ carry (configRow k d) g
 unfolding configWrite carry configRow configured setMin setScene removeScene setPowerOnLevel setSystemFailureLevel
 config-rowed g SetMaxLevel d h = refl
 config-rowed g SetMinLevel d h = refl
-config-rowed g SetSystemFailureLevel d h = λ i.
-    set g (g .on) (levelSetting d (takes-setting (g .colour) (g .failure .colour) (h .unstaged) i)) (g .scenes) (g .colours)
-    (takes-colour (g .colour) (g .failure .colour) (h .unstaged) i)
-config-rowed g SetPowerOnLevel d h = λ i.
-    set g (levelSetting d (takes-setting (g .colour) (g .on .colour) (h .unstaged) i)) (g .failure) (g .scenes) (g .colours)
-    (takes-colour (g .colour) (g .on .colour) (h .unstaged) i)
+config-rowed g SetSystemFailureLevel d h = ap (putFailure (set g)) (stores (g .settings .failure) d (g .colour) (h .unstaged))
+config-rowed g SetPowerOnLevel d h = ap (putOn (set g)) (stores (g .settings .on) d (g .colour) (h .unstaged))
 config-rowed g SetFadeTime d h = refl
 config-rowed g SetFadeRate d h = refl
 config-rowed g SetExtendedFadeTime d h = refl
-config-rowed g (SetScene s) d h =
-    let kept = ap (stored (g .colours) s) (takes-setting (g .colour) (sceneColour g s) (h .unstaged)) ∙ store-own (g .colours) s in
-    λ i. set g (g .on) (g .failure) (stored (g .scenes) s d) (kept i) (takes-colour (g .colour) (sceneColour g s) (h .unstaged) i)
+config-rowed g (SetScene s) d h = ap (putScene (set g) s) (stores (scene g s) d (g .colour) (h .unstaged))
 config-rowed g (RemoveScene s) d h = refl
 config-rowed g (AddToGroup n) d h = refl
 config-rowed g (RemoveFromGroup n) d h = refl

@@ -3,18 +3,18 @@ use Prim.Native.Nat.{ℕ}
 use mathlib.Core.Bool.{Bool, true, false}
 use mathlib.Core.List.{List}
 use mathlib.Core.Option.{Option, none, some}
-use Rattle.order.specs.Rows.{BankStep, Clears, ColourStep, GroupSlot, LevelStep, Row, SceneSlot}
+use Rattle.order.specs.Rows.{BankStep, Clears, ColourStep, GroupSlot, LevelStep, Row, SceneSlot, SceneStep}
 use Rattle.order.specs.Rows.BankStep.{Store}
 use Rattle.order.specs.Rows.ColourStep.{Tc, Xy, Limit, Activated, SceneColour}
 use Rattle.order.specs.Rows.GroupSlot.{NoGroup, Member}
 use Rattle.order.specs.Rows.LevelStep.{ByCommand, Max, Min, SceneLevel}
 use Rattle.order.specs.Rows.SceneSlot.{NoScene, At}
+use Rattle.order.specs.Rows.SceneStep.{Put, Remove}
 use Rattle.bank.specs.declared.build.Banks.{Banks}
 use Rattle.bank.specs.Memory.{writeMemoryLocation}
 use Rattle.colour.specs.Activation.{activate}
 use Rattle.colour.specs.declared.record.Colour.{Colour}
 use Rattle.colour.specs.declared.setting.ColourSetting.{ColourSetting}
-use Rattle.colour.specs.Setting.{mask}
 use Rattle.colour.specs.Staging.{loadTemporariesFrom, withPending}
 use Rattle.colour.specs.Steps.{storeTcLimit, tcStep, xyStep}
 use Rattle.colour.specs.Tint.{unstaged}
@@ -22,10 +22,12 @@ use Rattle.gear.specs.declared.marks.Marks.{Marks}
 use Rattle.gear.specs.declared.marks.Walk.the-variants.{Off}
 use Rattle.gear.specs.declared.profile.Unit.{Unit as Profile}
 use Rattle.gear.specs.declared.record.Gear.{Gear}
-use Rattle.gear.specs.declared.record.LevelSetting.{LevelSetting}
+use Rattle.gear.specs.declared.settings.LevelSetting.{LevelSetting}
+use Rattle.gear.specs.declared.settings.Settings.{Settings}
 use Rattle.gear.specs.Profile.{fixed, floor}
-use Rattle.gear.specs.Scene.{colourAt, levelAt, stored}
-use Rattle.gear.specs.Write.{levelSetting, recalledLevels}
+use Rattle.gear.specs.Scene.{sceneAt, stored}
+use Rattle.gear.specs.Settings.{levelSetting, unset}
+use Rattle.gear.specs.Write.{recalledLevels}
 use Rattle.level.specs.Arc.{arcLevels}
 use Rattle.level.specs.declared.levels.Levels.{Levels}
 use Rattle.level.specs.Levels.{setMaxLevel, setMinLevel}
@@ -54,26 +56,25 @@ colourStep s (Limit value selector) c = storeTcLimit c value selector
 colourStep s Activated c = c
 colourStep s SceneColour c = pick (eqb (s .kind) 0xFF) c (activate (loadTemporariesFrom c s))
 
--- the level and the colour that a row reads, before anything is stored
-abbrev pub readLevel : SceneSlot → List ℕ → ℕ
-readLevel NoScene scenes = 255
-readLevel (At s level colour) scenes = levelAt scenes s
+abbrev pub setLevelOf : ℕ → LevelSetting → LevelSetting
+setLevelOf d x = levelSetting d (x .colour)
 
-abbrev pub readColour : SceneSlot → List ColourSetting → ColourSetting
-readColour NoScene colours = mask
-readColour (At s level colour) colours = colourAt colours s
+abbrev pub sceneStep : SceneStep → LevelSetting → LevelSetting
+sceneStep (Put d) x = setLevelOf d x
+sceneStep Remove x = unset
 
-abbrev pub store : {A : Type 0} → ℕ → Option A → List A → List A
-store n none xs = xs
-store n (some v) xs = stored xs n v
+-- the scene that a row reads, before anything is stored
+abbrev pub readScene : SceneSlot → List LevelSetting → LevelSetting
+readScene NoScene scenes = unset
+readScene (At s step) scenes = sceneAt scenes s
 
-abbrev pub storeLevel : SceneSlot → List ℕ → List ℕ
-storeLevel NoScene scenes = scenes
-storeLevel (At s level colour) scenes = store s level scenes
+abbrev pub store : ℕ → Option SceneStep → List LevelSetting → List LevelSetting
+store s none scenes = scenes
+store s (some k) scenes = stored scenes s (sceneStep k (sceneAt scenes s))
 
-abbrev pub storeColour : SceneSlot → List ColourSetting → List ColourSetting
-storeColour NoScene colours = colours
-storeColour (At s level colour) colours = store s colour colours
+abbrev pub storeScene : SceneSlot → List LevelSetting → List LevelSetting
+storeScene NoScene scenes = scenes
+storeScene (At s step) scenes = store s step scenes
 
 abbrev pub storeGroup : GroupSlot → List Bool → List Bool
 storeGroup NoGroup groups = groups
@@ -84,9 +85,6 @@ storeByte unstored (Store bank offset value) b = writeMemoryLocation b unstored 
 
 abbrev pub setNumber : ℕ → ℕ → ℕ
 setNumber d n = d
-
-abbrev pub setLevelOf : ℕ → LevelSetting → LevelSetting
-setLevelOf d l = levelSetting d (l .colour)
 
 abbrev pub marked : Clears → Bool → Marks → Marks
 marked k enables m =
@@ -101,27 +99,30 @@ marked k enables m =
       writable = pick enables true (m .writable);
     }
 
+abbrev pub carrySettings : Row → Settings → Settings
+carrySettings r s =
+    record {
+      on = does setLevelOf (r .powerOn) (s .on);
+      failure = does setLevelOf (r .systemFailure) (s .failure);
+      fades =
+          record {
+            time = does setNumber (r .fadeTime) (s .fades .time);
+            rate = does setNumber (r .fadeRate) (s .fades .rate);
+            extended = does setNumber (r .extendedFade) (s .fades .extended);
+          };
+      groups = storeGroup (r .group) (s .groups);
+      curve = s .curve;
+    }
+
 unfoldable pub carry : Row → Gear → Gear
 carry r g =
     record {
       unit = g .unit;
-      enabled = g .enabled;
-      levels = does (levelStep (g .unit) (readLevel (r .scene) (g .scenes))) (r .level) (g .levels);
+      levels = does (levelStep (g .unit) (readScene (r .scene) (g .scenes) .level)) (r .level) (g .levels);
       marks = marked (r .clears) (r .enables) (g .marks);
-      on = does setLevelOf (r .powerOn) (g .on);
-      failure = does setLevelOf (r .systemFailure) (g .failure);
-      fades =
-          record {
-            time = does setNumber (r .fadeTime) (g .fades .time);
-            rate = does setNumber (r .fadeRate) (g .fades .rate);
-            extended = does setNumber (r .extendedFade) (g .fades .extended);
-          };
-      groups = storeGroup (r .group) (g .groups);
-      scenes = storeLevel (r .scene) (g .scenes);
-      colours = storeColour (r .scene) (g .colours);
-      lamp = g .lamp;
-      faults = g .faults;
-      curve = g .curve;
-      colour = does (colourStep (readColour (r .scene) (g .colours))) (r .colour) (settled (r .settles) (g .colour));
-      banks = does (storeByte (g .faults .unstored)) (r .bank) (g .banks);
+      colour = does (colourStep (readScene (r .scene) (g .scenes) .colour)) (r .colour) (settled (r .settles) (g .colour));
+      settings = carrySettings r (g .settings);
+      scenes = storeScene (r .scene) (g .scenes);
+      condition = g .condition;
+      banks = does (storeByte (g .condition .faults .unstored)) (r .bank) (g .banks);
     }

@@ -16,7 +16,7 @@ use Rattle.gear.specs.Command.{commandOf}
 use Rattle.gear.specs.declared.command.StandardCommand.{StandardCommand}
 use Rattle.gear.specs.declared.command.StandardCommand.the-variants.{Arc, GoToScene, Reset, IdentifyDevice, Config, EnableWriteMemory, Unknown}
 use Rattle.gear.specs.declared.record.Gear.{Gear}
-use Rattle.gear.specs.Write.{sceneColour}
+use Rattle.gear.specs.Write.{scene}
 
 -- ---- the list
 
@@ -39,7 +39,7 @@ Strong g ws = Ready g
 
 -- with activation on, the recall of scene s leaves the staged colour of a fresh gear
 abbrev pub RecallsClean : Gear → ℕ → Type 0
-RecallsClean g s = recall (withFeatures (g .colour) 1) (sceneColour g s) .pending ≡ dark 0xFF
+RecallsClean g s = recall (withFeatures (g .colour) 1) (scene g s .colour) .pending ≡ dark 0xFF
 
 -- asked of GoToScene alone
 abbrev pub CommandClean : Gear → StandardCommand → Type 0

@@ -5,7 +5,6 @@ use mathlib.Core.List.{List, [], _∷_, _++_}
 use mathlib.Core.Option.{Option, none, some}
 use Rattle.order.specs.Keys.{Key}
 use Rattle.order.specs.Keys.Key.{Level, Colour as ColourKey, FadeTime, FadeRate, ExtendedFade, PowerOn, SystemFailure, WriteEnable, Bank1, Scene, Group}
-use Rattle.colour.specs.declared.setting.ColourSetting.{ColourSetting}
 use Rattle.level.specs.declared.arc.ArcCommand.{ArcCommand}
 
 -- ---- what a row may ask of a part
@@ -21,10 +20,15 @@ pub data ColourStep : Type 0 where
   Limit : (value selector : ℕ) → ColourStep
   Activated SceneColour : ColourStep
 
+-- a level, which leaves the colour, or neither
+pub data SceneStep : Type 0 where
+  Put : ℕ → SceneStep
+  Remove : SceneStep
+
 -- a scene that is read, and what is stored there
 pub data SceneSlot : Type 0 where
   NoScene : SceneSlot
-  At : ℕ → (level : Option ℕ) → (colour : Option ColourSetting) → SceneSlot
+  At : ℕ → Option SceneStep → SceneSlot
 
 pub data GroupSlot : Type 0 where
   NoGroup : GroupSlot
@@ -64,7 +68,7 @@ has k (some a) = k ∷ []
 
 abbrev pub sceneKeys : SceneSlot → List Key
 sceneKeys NoScene = []
-sceneKeys (At s level colour) = Scene s ∷ []
+sceneKeys (At s step) = Scene s ∷ []
 
 abbrev pub groupKeys : GroupSlot → List Key
 groupKeys NoGroup = []

@@ -8,9 +8,9 @@ use Rattle.order.specs.Rows.ColourStep.{Tc, Xy, Limit, Activated, SceneC
 use Rattle.order.specs.Rows.GroupSlot.{NoGroup, Member}
 use Rattle.order.specs.Rows.LevelStep.{ByCommand, Max, Min, SceneLevel}
 use Rattle.order.specs.Rows.SceneSlot.{NoScene, At}
+use Rattle.order.specs.Rows.SceneStep.{Put, Remove}
 use Rattle.order.specs.Writes.{Write}
 use Rattle.order.specs.Writes.Write.{ArcPower, Standard, TcStep, XyStep, TcLimit, Activation, Memory}
-use Rattle.colour.specs.Setting.{mask}
 use Rattle.gear.specs.Command.{commandOf}
 use Rattle.gear.specs.declared.command.ConfigCommand.{ConfigCommand}
 use Rattle.gear.specs.declared.command.ConfigCommand.the-variants.{SetMaxLevel, SetMinLevel, SetSystemFailureLevel, SetPowerOnLevel, SetFadeTime, SetFadeRate, SetExtendedFadeTime, SetScene, RemoveScene, AddToGroup, RemoveFromGroup}
@@ -106,15 +106,15 @@ configRow SetPowerOnLevel d = storeRow none none none (some d) none NoGroup
 configRow SetFadeTime d = storeRow (some d) none none none none NoGroup
 configRow SetFadeRate d = storeRow none (some d) none none none NoGroup
 configRow SetExtendedFadeTime d = storeRow none none (some (extendedFade d)) none none NoGroup
-configRow (SetScene s) d = lightRow none none (At s (some d) none) false setting
-configRow (RemoveScene s) d = lightRow none none (At s (some 255) (some mask)) false setting
+configRow (SetScene s) d = lightRow none none (At s (some (Put d))) false setting
+configRow (RemoveScene s) d = lightRow none none (At s (some Remove)) false setting
 configRow (AddToGroup n) d = storeRow none none none none none (Member n true)
 configRow (RemoveFromGroup n) d = storeRow none none none none none (Member n false)
 
 -- the commands without keys have no row of their own
 unfoldable pub commandRow : StandardCommand → ℕ → Row
 commandRow (Arc a) d = arcRow a
-commandRow (GoToScene s) d = lightRow (some SceneLevel) (some SceneColour) (At s none none) false (asking false)
+commandRow (GoToScene s) d = lightRow (some SceneLevel) (some SceneColour) (At s none) false (asking false)
 commandRow (Config k) d = configRow k d
 commandRow EnableWriteMemory d = memoryRow true none enabling
 commandRow Reset d = memoryRow false none nothing

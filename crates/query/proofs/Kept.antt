@@ -1,4 +1,4 @@
--- A query to a fit record gives a fit record, and changes no level.
+-- A query to a fit record gives a fit record, and changes nothing that writes change.
 use Prim.Native.Nat.{ℕ, _+_, _/_, _%_, _≤_, _<_}
 use mathlib.Core.Path.{_≡_, refl}
 use mathlib.Core.Bool.{Bool, true, false}
@@ -14,10 +14,11 @@ use Rattle.gear.specs.declared.marks.Walk.{Walk}
 use Rattle.gear.specs.declared.marks.Walk.the-variants.{Off, At}
 use Rattle.gear.specs.declared.record.Gear.{Gear}
 use Rattle.gear.specs.Marks.{walkFit}
+use Rattle.gear.specs.Parts.{written}
 use Rattle.gear.specs.Profile.{isType}
 use Rattle.gear.specs.Record.{fitb}
 use Rattle.gear.specs.Serve.{serve}
-use Rattle.gear.specs.Write.{sceneColour}
+use Rattle.gear.specs.Write.{scene}
 use Rattle.gear.proofs.Fit.{GearFit, count-most}
 use Rattle.gear.proofs.Kept.{serve-kept}
 use Rattle.level.specs.declared.levels.Levels.{Levels}
@@ -61,11 +62,11 @@ unfolding reportFor
 report-for-kept g b f =
     by-cases (eqb b 160) (λ e. rw e (ColourKept.report-actual-kept (f .colour)))
     (λ e.
-    by-cases (eqb b 163) (λ t. rw (e, t) (ColourKept.report-kept (g .on .colour) (f .colour)))
+    by-cases (eqb b 163) (λ t. rw (e, t) (ColourKept.report-kept (g .settings .on .colour) (f .colour)))
     (λ t.
-    by-cases (eqb b 164) (λ u. rw (e, t, u) (ColourKept.report-kept (g .failure .colour) (f .colour)))
+    by-cases (eqb b 164) (λ u. rw (e, t, u) (ColourKept.report-kept (g .settings .failure .colour) (f .colour)))
     (λ u.
-    by-cases (eqb (b / 16) 11) (λ v. rw (e, t, u, v) (ColourKept.report-kept (sceneColour g (b % 16)) (f .colour)))
+    by-cases (eqb (b / 16) 11) (λ v. rw (e, t, u, v) (ColourKept.report-kept (scene g (b % 16) .colour) (f .colour)))
     (λ v. rw (e, t, u, v) (f .colour)))))
 
 reported-kept : (g : Gear) (b : ℕ) → GearFit g → ColourFit.Fit (reported g b)
@@ -90,24 +91,24 @@ pub gear-query-kept : (g : Gear) (b : ℕ) → fitb g ≡ true → fitb (gearQue
 unfolding gearQueryReply
 gear-query-kept g b = serve-kept g (query g b) (query-kept g b)
 
-device-type-levels : (g : Gear) → deviceType g .gear .levels ≡ g .levels
+device-type-left : (g : Gear) → written (deviceType g .gear) ≡ written g
 unfolding deviceType
-device-type-levels g = by-cases (eqb (g .unit .count) 0) (λ e. rw e) (λ e. by-cases (eqb (g .unit .count) 1) (λ t. rw (e, t)) (λ t. rw (e, t)))
+device-type-left g = by-cases (eqb (g .unit .count) 0) (λ e. rw e) (λ e. by-cases (eqb (g .unit .count) 1) (λ t. rw (e, t)) (λ t. rw (e, t)))
 
-next-levels : (g : Gear) (w : Walk) → next g w .gear .levels ≡ g .levels
+next-left : (g : Gear) (w : Walk) → written (next g w .gear) ≡ written g
 unfolding next nextAt
-next-levels g Off = refl
-next-levels g (At n) = by-cases (leb (g .unit .count) n) (λ e. rw e) (λ e. rw e)
+next-left g Off = refl
+next-left g (At n) = by-cases (leb (g .unit .count) n) (λ e. rw e) (λ e. rw e)
 
-query-levels : (g : Gear) (b : ℕ) → query g b .gear .levels ≡ g .levels
+query-left : (g : Gear) (b : ℕ) → written (query g b .gear) ≡ written g
 unfolding query nextDeviceType heardQuery
-query-levels g b =
-    by-cases (eqb b 153) (λ e. rw e (device-type-levels g))
+query-left g b =
+    by-cases (eqb b 153) (λ e. rw e (device-type-left g))
     (λ e.
-    by-cases (eqb b 167) (λ t. rw (e, t) (next-levels g (g .marks .walk)))
+    by-cases (eqb b 167) (λ t. rw (e, t) (next-left g (g .marks .walk)))
     (λ t. by-cases (isQuery b) (λ u. rw (e, t, u)) (λ u. rw (e, t, u))))
 
--- no query changes a level, so the level bound is kept
-pub gear-query-levels : (g : Gear) (b : ℕ) → gearQueryReply g b .gear .levels ≡ g .levels
+-- no query changes what writes change
+pub gear-query-left : (g : Gear) (b : ℕ) → written (gearQueryReply g b .gear) ≡ written g
 unfolding gearQueryReply serve
-gear-query-levels g b = by-cases (fitb g) (λ e. rw e (query-levels g b)) (λ e. rw e)
+gear-query-left g b = by-cases (fitb g) (λ e. rw e (query-left g b)) (λ e. rw e)

@@ -12,14 +12,15 @@ use Rattle.colour.specs.Report.{reportFrom, reportFromActual}
 use Rattle.gear.specs.declared.marks.Walk.{Walk}
 use Rattle.gear.specs.declared.marks.Walk.the-variants.{Off, At}
 use Rattle.gear.specs.declared.record.Gear.{Gear}
+use Rattle.gear.specs.Parts.{withLight}
 use Rattle.gear.specs.Profile.{isType}
-use Rattle.gear.specs.Write.{withLight, sceneColour}
+use Rattle.gear.specs.Write.{scene}
 use Rattle.numbers.specs.Numbers.{pick}
 use Rattle.numbers.proofs.Logic.{by-cases, no-false}
 
 -- ---- the report
 
-pub reported-shown : (g : Gear) (b : ℕ) → reported g b ≡ pick (reports (g .unit) b) (reportFrom (g .colour) (shown (g .colour .active) (g .on .colour) (g .failure .colour) (sceneColour g (b % 16)) b)) (g .colour)
+pub reported-shown : (g : Gear) (b : ℕ) → reported g b ≡ pick (reports (g .unit) b) (reportFrom (g .colour) (shown (g .colour .active) (g .settings .on .colour) (g .settings .failure .colour) (scene g (b % 16) .colour) b)) (g .colour)
 unfolding reported reportFor reportFromActual reports tellsLevel shown
 reported-shown g b =
     by-cases (isType (g .unit) 8)
@@ -99,7 +100,7 @@ unfolding next nextAt nextTypeAnswer answerAt
 next-answers g Off = refl
 next-answers g (At n) = by-cases (leb (g .unit .count) n) (λ e. simp e) (λ e. simp e)
 
-pub query-tells : (g : Gear) (b : ℕ) → query g b .answer ≡ told (seen g) b
+pub query-tells : (g : Gear) (b : ℕ) → query g b .answer ≡ told (seen g b) b
 unfolding query nextDeviceType told
 query-tells g b =
     by-cases (eqb b 153) (λ e. simp (e, type-answers))

@@ -6,8 +6,8 @@ use Rattle.query.specs.Bits.{bit}
 use Rattle.colour.specs.declared.tint.Tint.{Tint}
 use Rattle.colour.specs.Tint.{byMode}
 use Rattle.gear.specs.declared.profile.Unit.{Unit}
-use Rattle.gear.specs.declared.record.Faults.{Faults}
-use Rattle.gear.specs.declared.record.Lamp.{Lamp}
+use Rattle.gear.specs.declared.condition.Faults.{Faults}
+use Rattle.gear.specs.declared.condition.Lamp.{Lamp}
 use Rattle.gear.specs.Profile.{isType}
 use Rattle.level.specs.declared.levels.Levels.{Levels}
 use Rattle.numbers.specs.Numbers.{both, pick}

@@ -17,10 +17,10 @@ use Rattle.gear.specs.declared.answer.Refusal.the-variants.{Byte}
 use Rattle.gear.specs.declared.marks.Walk.the-variants.{Off}
 use Rattle.gear.specs.declared.record.Gear.{Gear}
 use Rattle.gear.specs.Marks.{withWalk}
+use Rattle.gear.specs.Parts.{withLight}
 use Rattle.gear.specs.Profile.{isType}
-use Rattle.gear.specs.Scene.{levelAt}
 use Rattle.gear.specs.Serve.{serve}
-use Rattle.gear.specs.Write.{withLight, sceneColour}
+use Rattle.gear.specs.Write.{scene}
 use Rattle.numbers.specs.Numbers.{pick}
 
 -- of 144 to 159 all but 152, 156 and 157
@@ -91,7 +91,7 @@ unfoldable pub reply : Seen → ℕ → Answer
 reply s b =
     pick (eqb (b / 16) 9) (statusReply s (b % 16))
     (pick (eqb (b / 16) 10) (settingReply s (b % 16))
-    (pick (eqb (b / 16) 11) (Value (levelAt (s .scenes) (b % 16))) (pick (eqb (b / 16) 12) (identityReply s (b % 16)) Nothing)))
+    (pick (eqb (b / 16) 11) (Value (s .scene)) (pick (eqb (b / 16) 12) (identityReply s (b % 16)) Nothing)))
 
 -- 153 and 167 are the walk
 unfoldable pub told : Seen → ℕ → Answer
@@ -101,29 +101,34 @@ told s b =
 
 -- ## The query
 
-abbrev pub seen : Gear → Seen
-seen g =
+-- of a record, with the level of one scene
+abbrev pub seenWith : Gear → ℕ → Seen
+seenWith g level =
     record {
       unit = g .unit;
       levels = g .levels;
       marks = g .marks;
-      on = g .on .level;
-      failure = g .failure .level;
-      fades = g .fades;
-      groups = g .groups;
-      scenes = g .scenes;
-      lamp = g .lamp;
-      faults = g .faults;
+      on = g .settings .on .level;
+      failure = g .settings .failure .level;
+      fades = g .settings .fades;
+      groups = g .settings .groups;
+      scene = level;
+      lamp = g .condition .lamp;
+      faults = g .condition .faults;
       active = g .colour .active;
     }
+
+-- the scene is the one that the low half of the byte names
+abbrev pub seen : Gear → ℕ → Seen
+seen g b = seenWith g (scene g (b % 16) .level)
 
 -- 160 reports the active colour; 163, 164 and 176 to 191 the stored one
 unfoldable pub reportFor : Gear → ℕ → Colour
 reportFor g b =
     pick (eqb b 160) (reportFromActual (g .colour))
-    (pick (eqb b 163) (reportFrom (g .colour) (g .on .colour))
-    (pick (eqb b 164) (reportFrom (g .colour) (g .failure .colour))
-    (pick (eqb (b / 16) 11) (reportFrom (g .colour) (sceneColour g (b % 16))) (g .colour))))
+    (pick (eqb b 163) (reportFrom (g .colour) (g .settings .on .colour))
+    (pick (eqb b 164) (reportFrom (g .colour) (g .settings .failure .colour))
+    (pick (eqb (b / 16) 11) (reportFrom (g .colour) (scene g (b % 16) .colour)) (g .colour))))
 
 -- only a type 8 gear reports
 unfoldable pub reported : Gear → ℕ → Colour
@@ -137,7 +142,7 @@ unfoldable pub query : Gear → ℕ → Outcome
 query g b =
     pick (eqb b 153) (deviceType g)
     (pick (eqb b 167) (nextDeviceType g)
-    (pick (isQuery b) (record { answer = reply (seen g) b; gear = heardQuery g b }) (refused g Byte)))
+    (pick (isQuery b) (record { answer = reply (seen g b) b; gear = heardQuery g b }) (refused g Byte)))
 
 unfoldable pub gearQueryReply : Gear → ℕ → Outcome
 gearQueryReply g b = serve g (query g b)

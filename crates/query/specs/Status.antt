@@ -8,8 +8,8 @@ use Rattle.gear.specs.declared.marks.Marks.{Marks}
 use Rattle.gear.specs.declared.profile.Short.{Short}
 use Rattle.gear.specs.declared.profile.Short.the-variants.{Missing, Address}
 use Rattle.gear.specs.declared.profile.Unit.{Unit}
-use Rattle.gear.specs.declared.record.Faults.{Faults}
-use Rattle.gear.specs.declared.record.Lamp.{Lamp}
+use Rattle.gear.specs.declared.condition.Faults.{Faults}
+use Rattle.gear.specs.declared.condition.Lamp.{Lamp}
 use Rattle.level.specs.declared.levels.Levels.{Levels}
 use Rattle.numbers.specs.Numbers.{pick}
 

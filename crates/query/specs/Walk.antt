@@ -11,7 +11,7 @@ use Rattle.gear.specs.declared.marks.Walk.the-variants.{Off, At}
 use Rattle.gear.specs.declared.profile.Unit.{Unit}
 use Rattle.gear.specs.declared.record.Gear.{Gear}
 use Rattle.gear.specs.Marks.{withWalk}
-use Rattle.gear.specs.Write.{withMarks}
+use Rattle.gear.specs.Parts.{withMarks}
 use Rattle.numbers.specs.Numbers.{pick}
 
 abbrev pub walking : Gear → Walk → Gear

@@ -10,7 +10,7 @@ use gear::answer::Outcome;
 use gear::answer::Refusal;
 use gear::answer::refused;
 use gear::record::Gear;
-use gear::scene::colour_at;
+use gear::scene::scene_at;
 ghost use mathlib.Core.Path.{_≡_};
 ghost use Rattle.query.specs.Reply.{seen, reported, query, gearQueryReply};
 
@@ -22,36 +22,38 @@ fn reported(gear: Gear, byte: u8) -> Colour
     let colour = gear.colour;
     if reports(unit, byte) {
         let active = colour.active;
-        let on = gear.on.colour;
-        let failure = gear.failure.colour;
-        let colours = gear.colours;
-        let scene = colour_at(colours, byte % 16);
+        let on = gear.settings.on.colour;
+        let failure = gear.settings.failure.colour;
+        let scenes = gear.scenes;
+        let entry = scene_at(scenes, byte % 16);
+        let scene = entry.colour;
         return load_report_from(colour, shown(active, on, failure, scene, byte));
     }
     colour
 }
 
-fn seen(gear: Gear) -> Seen
-    ensures { λ r. ⌜ r ≡ seen gear ⌝ }
+fn seen(gear: Gear, byte: u8) -> Seen
+    ensures { λ r. ⌜ r ≡ seen gear byte ⌝ }
 {
     let unit = gear.unit;
     let levels = gear.levels;
     let marks = gear.marks;
-    let fades = gear.fades;
-    let groups = gear.groups;
+    let fades = gear.settings.fades;
+    let groups = gear.settings.groups;
     let scenes = gear.scenes;
-    let lamp = gear.lamp;
-    let faults = gear.faults;
+    let entry = scene_at(scenes, byte % 16);
+    let lamp = gear.condition.lamp;
+    let faults = gear.condition.faults;
     let active = gear.colour.active;
     Seen {
         unit: unit,
         levels: levels,
         marks: marks,
-        on: gear.on.level,
-        failure: gear.failure.level,
+        on: gear.settings.on.level,
+        failure: gear.settings.failure.level,
         fades: fades,
         groups: groups,
-        scenes: scenes,
+        scene: entry.level,
         lamp: lamp,
         faults: faults,
         active: active,
@@ -67,7 +69,7 @@ fn query(gear: Gear, byte: u8) -> Outcome
     next.marks = walked(unit, marks, byte);
     next.colour = reported(gear, byte);
     Outcome {
-        answer: query_answer(seen(gear), byte),
+        answer: query_answer(seen(gear, byte), byte),
         gear: next,
     }
 }

@@ -2,11 +2,11 @@
 use crate::bits::weight;
 use crate::lamp::lamp_failure_from_207;
 use crate::lamp::lamp_on;
+use gear::condition::Faults;
+use gear::condition::Lamp;
 use gear::marks::Marks;
 use gear::profile::Short;
 use gear::profile::Unit;
-use gear::record::Faults;
-use gear::record::Lamp;
 use level::levels::Levels;
 ghost use mathlib.Core.Path.{_≡_};
 ghost use Rattle.query.specs.Status.{missing, lampFailing, statusByte};

@@ -9,12 +9,11 @@ use crate::walk::type_answer;
 use colour::tint::Tint;
 use gear::answer::Answer;
 use gear::answer::Refusal;
+use gear::condition::Faults;
+use gear::condition::Lamp;
 use gear::marks::Marks;
 use gear::profile::Unit;
-use gear::record::Fades;
-use gear::record::Faults;
-use gear::record::Lamp;
-use gear::scene::level_at;
+use gear::settings::Fades;
 use level::levels::Levels;
 ghost use mathlib.Core.Path.{_≡_};
 ghost use Rattle.query.specs.Reply.{isStatusQuery, isSettingQuery, isQuery, yes, statusReply, packedFades, gearFailure, settingReply, identityReply, reply, told};
@@ -29,7 +28,8 @@ pub struct Seen {
     pub failure: u8,
     pub fades: Fades,
     pub groups: [bool; 16],
-    pub scenes: [u8; 16],
+    // The level of the scene that the low half of the byte names.
+    pub scene: u8,
     pub lamp: Lamp,
     pub faults: Faults,
     pub active: Tint,
@@ -171,10 +171,7 @@ fn reply(seen: Seen, byte: u8) -> Answer
     match block {
         9 => status_reply(seen, low),
         10 => setting_reply(seen, low),
-        11 => {
-            let scenes = seen.scenes;
-            value(level_at(scenes, low))
-        }
+        11 => value(seen.scene),
         12 => identity_reply(seen, low),
         _ => Answer::Nothing,
     }

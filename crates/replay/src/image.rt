@@ -8,19 +8,18 @@ use bank::build::Banks;
 use colour::limits::Limits;
 use colour::record::Capabilities;
 use colour::record::Colour;
-use colour::setting::ColourSetting;
 use colour::tint::ColorMode;
 use colour::tint::Tint;
+use gear::condition::Faults;
+use gear::condition::Lamp;
 use gear::marks::Marks;
 use gear::marks::Pair;
 use gear::marks::Walk;
 use gear::profile::Short;
 use gear::profile::Unit;
-use gear::record::Fades;
-use gear::record::Faults;
 use gear::record::Gear;
-use gear::record::Lamp;
-use gear::record::LevelSetting;
+use gear::settings::Fades;
+use gear::settings::LevelSetting;
 use level::levels::Levels;
 use query::bits::eight;
 
@@ -84,8 +83,16 @@ fn group(d: u32, groups: [bool; 16]) -> u32 {
     byte(byte(d, eight(groups, true)), eight(groups, false))
 }
 
-fn scene_levels(d: u32, levels: [u8; 16]) -> u32 {
-    bytes(d, &levels)
+// The Rust's two arrays: the levels of the entries, and their colours.
+fn scene_levels(d: u32, scenes: [LevelSetting; 16]) -> u32 {
+    let mut sum = d;
+    let mut i: usize = 0;
+    while i < 16 {
+        let entry = scenes[i];
+        sum = byte(sum, entry.level);
+        i += 1;
+    }
+    sum
 }
 
 fn lamps(d: u32, lamp: Lamp, faults: Faults) -> u32 {
@@ -159,11 +166,12 @@ fn tints(d: u32, colour: Colour) -> u32 {
     byte(setting(staged, report), colour.features)
 }
 
-fn scene_colours(d: u32, colours: [ColourSetting; 16]) -> u32 {
+fn scene_colours(d: u32, scenes: [LevelSetting; 16]) -> u32 {
     let mut sum = d;
     let mut i: usize = 0;
     while i < 16 {
-        let colour = colours[i];
+        let entry = scenes[i];
+        let colour = entry.colour;
         sum = setting(sum, colour);
         i += 1;
     }
@@ -181,14 +189,14 @@ fn settings(gear: Gear) -> u32 {
     let unit = gear.unit;
     let can = gear.colour.can;
     let levels = gear.levels;
-    let on = gear.on;
-    let failure = gear.failure;
-    let fades = gear.fades;
-    let groups = gear.groups;
+    let on = gear.settings.on;
+    let failure = gear.settings.failure;
+    let fades = gear.settings.fades;
+    let groups = gear.settings.groups;
     let scenes = gear.scenes;
-    let lamp = gear.lamp;
-    let faults = gear.faults;
-    let levelled = level(flag(profile(0, unit, can), gear.enabled), levels);
+    let lamp = gear.condition.lamp;
+    let faults = gear.condition.faults;
+    let levelled = level(flag(profile(0, unit, can), gear.condition.enabled), levels);
     let kept = fade(stored(stored(levelled, on), failure), fades);
     lamps(scene_levels(group(kept, groups), scenes), lamp, faults)
 }
@@ -196,8 +204,8 @@ fn settings(gear: Gear) -> u32 {
 pub fn digest(gear: Gear) -> u32 {
     let marks = gear.marks;
     let colour = gear.colour;
-    let colours = gear.colours;
+    let scenes = gear.scenes;
     let banks = gear.banks;
-    let marked = mark(settings(gear), marks, gear.curve);
-    memory(scene_colours(tints(marked, colour), colours), banks)
+    let marked = mark(settings(gear), marks, gear.settings.curve);
+    memory(scene_colours(tints(marked, colour), scenes), banks)
 }

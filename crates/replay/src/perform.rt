@@ -47,7 +47,7 @@ use calls::setters::set_lamp_failure;
 use calls::setters::set_lamp_starting;
 use gear::answer::Answer;
 use gear::answer::Outcome;
-use gear::record::Faults;
+use gear::condition::Faults;
 use gear::record::Gear;
 use gear::write::apply_standard_write;
 use gear::write::direct_arc_power;

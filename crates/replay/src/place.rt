@@ -17,8 +17,10 @@ use gear::marks::Marks;
 use gear::marks::Walk;
 use gear::profile::Unit;
 use gear::record::Gear;
-use gear::record::LevelSetting;
-use gear::scene::with_colour;
+use gear::scene::scene_at;
+use gear::scene::with_scene;
+use gear::settings::LevelSetting;
+use gear::settings::Settings;
 use level::levels::Levels;
 
 fn placed_levels(levels: Levels, entry: &[u8]) -> Levels {
@@ -127,12 +129,42 @@ fn heard(marks: Marks, entry: &[u8]) -> Marks {
     next
 }
 
+// The colour of a scene; its level stays.
+fn placed_scene(scenes: [LevelSetting; 16], entry: &[u8]) -> [LevelSetting; 16] {
+    let scene = byte(entry, 1);
+    let kept = scene_at(scenes, scene);
+    let placed = LevelSetting {
+        level: kept.level,
+        colour: setting(from(entry, 2)),
+    };
+    with_scene(scenes, scene, placed)
+}
+
+// The curve, power-on and system failure: kinds 66, 69 and 70.
+fn placed_settings(settings: Settings, entry: &[u8], kind: u8) -> Settings {
+    let mut next = settings;
+    match kind {
+        66 => {
+            next.curve = byte(entry, 3);
+            next
+        }
+        69 => {
+            next.on = stored(entry);
+            next
+        }
+        _ => {
+            next.failure = stored(entry);
+            next
+        }
+    }
+}
+
 // Kinds 64 to 70.
 fn place_setting(gear: Gear, entry: &[u8], kind: u8) -> Gear {
     let levels = gear.levels;
     let marks = gear.marks;
     let colour = gear.colour;
-    let colours = gear.colours;
+    let scenes = gear.scenes;
     let mut next = gear;
     match kind {
         64 => {
@@ -145,24 +177,20 @@ fn place_setting(gear: Gear, entry: &[u8], kind: u8) -> Gear {
         }
         66 => {
             next.marks = addressing(marks, entry);
-            next.curve = byte(entry, 3);
+            next.settings = placed_settings(gear.settings, entry, kind);
             next
         }
         67 => {
-            let settings = with_colour(colours, byte(entry, 1), setting(from(entry, 2)));
-            next.colours = settings;
+            let placed = placed_scene(scenes, entry);
+            next.scenes = placed;
             next
         }
         68 => {
             next.colour = report(colour, entry);
             next
         }
-        69 => {
-            next.on = stored(entry);
-            next
-        }
         _ => {
-            next.failure = stored(entry);
+            next.settings = placed_settings(gear.settings, entry, kind);
             next
         }
     }

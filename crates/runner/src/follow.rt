@@ -6,7 +6,6 @@ use colour::activation::activate_pending_color;
 use colour::activation::arc_power_activation;
 use colour::activation::recall;
 use colour::report::load_report_from;
-use colour::setting::ColourSetting;
 use colour::staging::copy_report_to_temporary;
 use colour::staging::load_temporaries_from;
 use colour::staging::take_staged_colour;
@@ -25,8 +24,7 @@ use gear::parts::keeps_identify;
 use gear::parts::recalled_levels;
 use gear::parts::set_min;
 use gear::record::Gear;
-use gear::record::LevelSetting;
-use gear::record::SCENE_UNSET;
+use gear::settings::LevelSetting;
 use level::arc::ArcCommand;
 use level::arc::apply_arc;
 use query::heard::reports;
@@ -43,7 +41,7 @@ ghost use Prim.Native.Nat.{_*_, _≤_};
 ghost use lib.ListN.{length};
 ghost use Rattle.gear.specs.Record.{fitb};
 ghost use Rattle.numbers.specs.Numbers.{pick};
-ghost use Rattle.query.specs.Reply.{query};
+ghost use Rattle.query.specs.Reply.{seenWith, told};
 ghost use Rattle.runner.specs.Line.{Wrote};
 ghost use Rattle.runner.specs.Run.{answerAfter, stateAfter, textAfter};
 ghost use Rattle.step.specs.Step.{commandAt};
@@ -65,28 +63,27 @@ fn command_at(kind: u8, byte: u8) -> StandardCommand
     command_of(byte)
 }
 
-// What a query answers on a fit record.
-fn told(gear: Gear, byte: u8) -> Answer
-    ensures { λ r. ⌜ r ≡ query gear byte .answer ⌝ }
+// What a query answers on a fit record, where the scene that the byte names has this level.
+fn told(gear: Gear, scene: u8, byte: u8) -> Answer
+    ensures { λ r. ⌜ r ≡ told (seenWith gear scene) byte ⌝ }
 {
     let unit = gear.unit;
     let levels = gear.levels;
     let marks = gear.marks;
-    let fades = gear.fades;
-    let groups = gear.groups;
-    let scenes = gear.scenes;
-    let lamp = gear.lamp;
-    let faults = gear.faults;
+    let fades = gear.settings.fades;
+    let groups = gear.settings.groups;
+    let lamp = gear.condition.lamp;
+    let faults = gear.condition.faults;
     let active = gear.colour.active;
     let seen = Seen {
         unit: unit,
         levels: levels,
         marks: marks,
-        on: gear.on.level,
-        failure: gear.failure.level,
+        on: gear.settings.on.level,
+        failure: gear.settings.failure.level,
         fades: fades,
         groups: groups,
-        scenes: scenes,
+        scene: scene,
         lamp: lamp,
         faults: faults,
         active: active,
@@ -132,9 +129,10 @@ pub(crate) fn follow(
                         state.colour = arc_power_activation(state.colour);
                     }
                     StandardCommand::GoToScene(_) => {
-                        state.levels = recalled_levels(state.levels, state.scenes[slot]);
+                        let entry = state.scenes[slot];
+                        state.levels = recalled_levels(state.levels, entry.level);
                         state.marks = state.marks.asked(false);
-                        state.colour = recall(state.colour, state.colours[slot]);
+                        state.colour = recall(state.colour, entry.colour);
                     }
                     StandardCommand::Config(config) => {
                         state.marks = state.marks.configured();
@@ -146,56 +144,73 @@ pub(crate) fn follow(
                                 state.levels = set_min(state.unit, state.levels, b);
                             }
                             ConfigCommand::SetSystemFailureLevel => {
-                                let taken = take_staged_colour(state.colour, state.failure.colour);
+                                let taken = take_staged_colour(
+                                    state.colour,
+                                    state.settings.failure.colour,
+                                );
                                 let setting = taken.setting;
                                 let rest = taken.colour;
                                 let stored = LevelSetting {
                                     level: b,
                                     colour: setting,
                                 };
-                                state.failure = stored;
+                                let mut settings = state.settings;
+                                settings.failure = stored;
+                                state.settings = settings;
                                 state.colour = rest;
                             }
                             ConfigCommand::SetPowerOnLevel => {
-                                let taken = take_staged_colour(state.colour, state.on.colour);
+                                let taken = take_staged_colour(
+                                    state.colour,
+                                    state.settings.on.colour,
+                                );
                                 let setting = taken.setting;
                                 let rest = taken.colour;
                                 let stored = LevelSetting {
                                     level: b,
                                     colour: setting,
                                 };
-                                state.on = stored;
+                                let mut settings = state.settings;
+                                settings.on = stored;
+                                state.settings = settings;
                                 state.colour = rest;
                             }
-                            ConfigCommand::SetFadeTime => state.fades.time = b,
-                            ConfigCommand::SetFadeRate => state.fades.rate = b,
+                            ConfigCommand::SetFadeTime => state.settings.fades.time = b,
+                            ConfigCommand::SetFadeRate => state.settings.fades.rate = b,
                             ConfigCommand::SetExtendedFadeTime => {
-                                state.fades.extended = extended_fade(b);
+                                let extended = extended_fade(b);
+                                state.settings.fades.extended = extended;
                             }
                             ConfigCommand::SetScene(_) => {
-                                let taken = take_staged_colour(state.colour, state.colours[slot]);
+                                let entry = state.scenes[slot];
+                                let taken = take_staged_colour(state.colour, entry.colour);
                                 let setting = taken.setting;
                                 let rest = taken.colour;
-                                state.scenes[slot] = b;
-                                state.colours[slot] = setting;
+                                let stored = LevelSetting {
+                                    level: b,
+                                    colour: setting,
+                                };
+                                state.scenes[slot] = stored;
                                 state.colour = rest;
                             }
                             ConfigCommand::RemoveScene(_) => {
-                                state.scenes[slot] = SCENE_UNSET;
-                                let none = ColourSetting::mask();
-                                state.colours[slot] = none;
+                                let none = LevelSetting::unset();
+                                state.scenes[slot] = none;
                             }
-                            ConfigCommand::AddToGroup(_) => state.groups[slot] = true,
-                            ConfigCommand::RemoveFromGroup(_) => state.groups[slot] = false,
+                            ConfigCommand::AddToGroup(_) => {
+                                let mut settings = state.settings;
+                                settings.groups[slot] = true;
+                                state.settings = settings;
+                            }
+                            ConfigCommand::RemoveFromGroup(_) => {
+                                let mut settings = state.settings;
+                                settings.groups[slot] = false;
+                                state.settings = settings;
+                            }
                         }
                     }
                     StandardCommand::Reset => {
-                        state = Gear::reset_gear(
-                            state.unit,
-                            state.enabled,
-                            state.faults,
-                            state.colour,
-                        );
+                        state = Gear::reset_gear(state.unit, state.condition, state.colour);
                     },
                     StandardCommand::IdentifyDevice => state.marks = state.marks.identified(),
                     StandardCommand::EnableWriteMemory => state.marks = state.marks.enabled(),
@@ -203,14 +218,16 @@ pub(crate) fn follow(
                 }
             }
             2 => {
-                answer = told(state, a);
+                let scene = state.scenes[slot];
+                answer = told(state, scene.level, a);
                 state.marks = walked(state.unit, state.marks, a);
                 if reports(state.unit, a) {
+                    let entry = state.scenes[slot];
                     let setting = shown(
                         state.colour.active,
-                        state.on.colour,
-                        state.failure.colour,
-                        state.colours[slot],
+                        state.settings.on.colour,
+                        state.settings.failure.colour,
+                        entry.colour,
                         a,
                     );
                     state.colour = load_report_from(state.colour, setting);
@@ -218,7 +235,13 @@ pub(crate) fn follow(
             }
             3 => answer = location_answer(memory_location(state.banks, state.unit.bare, a, b)),
             4 => {
-                let written = write_memory_location(state.banks, state.faults.unstored, a, b, c);
+                let written = write_memory_location(
+                    state.banks,
+                    state.condition.faults.unstored,
+                    a,
+                    b,
+                    c,
+                );
                 let found = written.answer;
                 let banks = written.banks;
                 answer = location_answer(found);
@@ -230,7 +253,7 @@ pub(crate) fn follow(
             8 => state.colour = load_temporaries_from(state.colour, temperature(pair(b, c))),
             9 => state.colour = activate_pending_color(state.colour),
             10 => {
-                state.levels = state.levels.power_up(state.on.level);
+                state.levels = state.levels.power_up(state.settings.on.level);
                 state.marks = state.marks.power_up();
                 state.colour = state.colour.power_up();
             }

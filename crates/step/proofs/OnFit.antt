@@ -7,8 +7,8 @@ use native.Mathlib.Omega.{arith}
 use borrow.Author.Tests.{eqb-false, ne-eqb}
 use Rattle.bank.specs.declared.memory.Written.{Written}
 use Rattle.bank.specs.Memory.{memoryLocation, writeMemoryLocation}
-use Rattle.calls.specs.Colours.{activateCall, colorValueCall, copyReportCall, recoloured, setFeaturesCall, stageCall, storeTcLimitCall, tcStepCall, withColour}
-use Rattle.calls.specs.Memory.{memoryLocationCall, rebanked, withBanks, writeMemoryCall}
+use Rattle.calls.specs.Colours.{activateCall, colorValueCall, copyReportCall, recoloured, setFeaturesCall, stageCall, storeTcLimitCall, tcStepCall}
+use Rattle.calls.specs.Memory.{memoryLocationCall, rebanked, writeMemoryCall}
 use Rattle.calls.specs.Power.{powerCycle, powerCycleCall}
 use Rattle.calls.proofs.Kept.{activate-kept, copy-report-kept, power-cycle-kept, set-features-kept, stage-kept, store-tc-limit-kept, tc-step-kept, write-memory-kept}
 use Rattle.colour.specs.Activation.{activate}
@@ -22,9 +22,10 @@ use Rattle.gear.specs.declared.answer.Outcome.{Outcome}
 use Rattle.gear.specs.declared.answer.Refusal.the-variants.{Byte}
 use Rattle.gear.specs.declared.command.StandardCommand.{StandardCommand}
 use Rattle.gear.specs.declared.record.Gear.{Gear}
+use Rattle.gear.specs.Parts.{withBanks, withColour}
 use Rattle.gear.specs.Record.{fitb}
 use Rattle.gear.specs.Serve.{serve, tell}
-use Rattle.gear.specs.Write.{applyStandardWrite, directArcPower, sceneColour, write}
+use Rattle.gear.specs.Write.{applyStandardWrite, directArcPower, scene, write}
 use Rattle.gear.proofs.Kept.{arc-power-kept, standard-write-kept}
 use Rattle.numbers.specs.Numbers.{pick}
 use Rattle.numbers.proofs.Logic.{by-cases}
@@ -54,7 +55,7 @@ module _ (g : Gear) (fit : fitb g ≡ true) (a b c : ℕ) where
   at-read e = rw e (rw fit refl)
 
   abbrev stored : Written
-  stored = writeMemoryLocation (g .banks) (g .faults .unstored) a b c
+  stored = writeMemoryLocation (g .banks) (g .condition .faults .unstored) a b c
 
   pub at-stored : {kind : ℕ} → kind ≡ 4 → step g kind a b c ≡ record { answer = locationAnswer (stored .answer); gear = withBanks g (stored .banks) }
   unfolding step writeMemoryCall rebanked serve
@@ -116,7 +117,7 @@ module _ (g : Gear) (fit : fitb g ≡ true) (a b c : ℕ) where
 module _ (g : Gear) (byte : ℕ) where
   pub report-told :
       reports (g .unit) byte ≡ true →
-      reportFrom (g .colour) (shown (g .colour .active) (g .on .colour) (g .failure .colour) (sceneColour g (byte % 16)) byte) ≡ reported g byte
+      reportFrom (g .colour) (shown (g .colour .active) (g .settings .on .colour) (g .settings .failure .colour) (scene g (byte % 16) .colour) byte) ≡ reported g byte
   report-told e = sym (reported-shown g byte ∙ rw e refl)
 
   pub report-left : reports (g .unit) byte ≡ false → g .colour ≡ reported g byte

@@ -7,13 +7,13 @@ use lib.Dec.{T, eqb, eqb→eq, leb}
 use lib.ListN.{getD, replicate, set}
 use native.Mathlib.Omega.{arith}
 use borrow.Author.Tests.{lt-leb}
-use Rattle.colour.specs.declared.setting.ColourSetting.{ColourSetting}
 use Rattle.gear.specs.Command.{commandOf, levelCommand, configCommand}
 use Rattle.gear.specs.declared.command.ConfigCommand.{ConfigCommand}
 use Rattle.gear.specs.declared.command.ConfigCommand.the-variants.{SetMaxLevel, SetMinLevel, SetSystemFailureLevel, SetPowerOnLevel, SetFadeTime, SetFadeRate, SetExtendedFadeTime, SetScene, RemoveScene, AddToGroup, RemoveFromGroup}
 use Rattle.gear.specs.declared.command.StandardCommand.{StandardCommand}
 use Rattle.gear.specs.declared.command.StandardCommand.the-variants.{Arc, GoToScene, Reset, IdentifyDevice, Config, EnableWriteMemory, Unknown}
-use Rattle.gear.specs.Scene.{colourAt, levelAt, nowhere, stored}
+use Rattle.gear.specs.declared.settings.LevelSetting.{LevelSetting}
+use Rattle.gear.specs.Scene.{nowhere, sceneAt, stored}
 use Rattle.numbers.proofs.Logic.{by-cases}
 use Rattle.numbers.proofs.Table.{at}
 use Rattle.step.specs.Step.{commandAt}
@@ -57,13 +57,9 @@ slot kind byte h e = rw e (by-cases (eqb kind 0) (λ t. rw t refl) (λ t. rw t (
 
 -- what the slot of a low half holds, and what it is to store there
 module _ {s low : ℕ} (is : s ≡ low) (h : low < 16) where
-  pub level-at : (xs : List ℕ) → getD xs low 0 ≡ levelAt xs s
-  unfolding levelAt
-  level-at xs = rw (is, lt-leb 16 low h) refl
-
-  pub colour-at : (xs : List ColourSetting) → getD xs low nowhere ≡ colourAt xs s
-  unfolding colourAt
-  colour-at xs = rw (is, lt-leb 16 low h) refl
+  pub scene-at : (xs : List LevelSetting) → getD xs low nowhere ≡ sceneAt xs s
+  unfolding sceneAt
+  scene-at xs = rw (is, lt-leb 16 low h) refl
 
   pub stored-at : {A : Type 0} (xs : List A) (v : A) → set xs low v ≡ stored xs s v
   unfolding stored

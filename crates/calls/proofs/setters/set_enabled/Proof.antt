@@ -13,7 +13,7 @@ done-requires c κs = search needs
 
 returns : tie.Need-returns
 unfolding setEnabledCall serve
-returns c = simp (c .done .ensures, c .before .if1 .taken, ← c .before .before .fit .ensures)
+returns c = simp (c .done .ensures, c .before .before .if1 .taken, ← c .before .before .before .fit .ensures)
 
 refused-requires : tie.Need-refused-requires
 refused-requires c κs = search needs

@@ -58,14 +58,14 @@ remove-scene-requires c κs = search needs
 enum-known-command-3 : tie.Need-enum-known-command-3
 enum-known-command-3 c = search needs
 
-with-member-requires : tie.Need-with-member-requires
-with-member-requires c κs = search needs
+set-member-requires : tie.Need-set-member-requires
+set-member-requires c κs = search needs
 
 enum-known-command-4 : tie.Need-enum-known-command-4
 enum-known-command-4 c = search needs
 
-with-member-requires-2 : tie.Need-with-member-requires-2
-with-member-requires-2 c κs = search needs
+set-member-requires-2 : tie.Need-set-member-requires-2
+set-member-requires-2 c κs = search needs
 
 returns : tie.Need-returns
 unfolding configWrite
@@ -105,11 +105,11 @@ returns-9 c = simp (← c .remove-scene .ensures, c .before .before .command2 .g
 
 returns-10 : tie.Need-returns-10
 unfolding configWrite
-returns-10 c = simp (← c .with-member .ensures, c .before .before .command3 .given .1, ← c .before .before .before .before .configured .ensures)
+returns-10 c = simp (← c .set-member .ensures, c .before .before .command3 .given .1, ← c .before .before .before .before .configured .ensures)
 
 returns-11 : tie.Need-returns-11
 unfolding configWrite
-returns-11 c = simp (← c .with-member2 .ensures, c .before .before .command4 .given .1, ← c .before .before .before .before .configured .ensures)
+returns-11 c = simp (← c .set-member2 .ensures, c .before .before .command4 .given .1, ← c .before .before .before .before .configured .ensures)
 
 pub config-write-spec : {M : Type 1} → statement M
 config-write-spec =
@@ -133,9 +133,9 @@ config-write-spec =
     enum-known-command-2
     remove-scene-requires
     enum-known-command-3
-    with-member-requires
+    set-member-requires
     enum-known-command-4
-    with-member-requires-2
+    set-member-requires-2
     returns
     returns-2
     returns-3

@@ -4,28 +4,19 @@ use borrow.Author.Needs.{needs}
 use Rattle.gear.proofs.write.set_scene.Statement.{statement}
 use Rattle.gear.proofs.write.set_scene.Tie as tie
 
-colour-at-requires : tie.Need-colour-at-requires
-colour-at-requires c κs = search needs
+scene-at-requires : tie.Need-scene-at-requires
+scene-at-requires c κs = search needs
 
-take-staged-colour-requires : tie.Need-take-staged-colour-requires
-take-staged-colour-requires c κs = search needs
+store-level-setting-requires : tie.Need-store-level-setting-requires
+store-level-setting-requires c κs = search needs
 
-with-level-requires : tie.Need-with-level-requires
-with-level-requires c κs = search needs
-
-with-colour-requires : tie.Need-with-colour-requires
-with-colour-requires c κs = search needs
+with-scene-requires : tie.Need-with-scene-requires
+with-scene-requires c κs = search needs
 
 returns : tie.Need-returns
 unfolding setScene
-returns c = simp (← c .with-colour .ensures, ← c .before .with-level .ensures, ← c .before .before .before .before .take-staged-colour .ensures, ← c .before .before .before .before .before .colour-at .ensures)
+returns c = rw (c .with-scene .ensures, c .before .before .before .store-level-setting .ensures, c .before .before .before .before .scene-at .ensures)
 
 pub set-scene-spec : {M : Type 1} → statement M
 set-scene-spec =
-    tie.close
-    (tie.spec
-    colour-at-requires
-    take-staged-colour-requires
-    with-level-requires
-    with-colour-requires
-    returns)
+    tie.close (tie.spec scene-at-requires store-level-setting-requires with-scene-requires returns)

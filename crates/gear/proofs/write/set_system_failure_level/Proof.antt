@@ -4,12 +4,12 @@ use borrow.Author.Needs.{needs}
 use Rattle.gear.proofs.write.set_system_failure_level.Statement.{statement}
 use Rattle.gear.proofs.write.set_system_failure_level.Tie as tie
 
-take-staged-colour-requires : tie.Need-take-staged-colour-requires
-take-staged-colour-requires c κs = search needs
+store-level-setting-requires : tie.Need-store-level-setting-requires
+store-level-setting-requires c κs = search needs
 
 returns : tie.Need-returns
 unfolding setSystemFailureLevel
-returns c = simp (← c .before .before .take-staged-colour .ensures)
+returns c = rw (c .before .before .before .store-level-setting .ensures)
 
 pub set-system-failure-level-spec : {M : Type 1} → statement M
-set-system-failure-level-spec = tie.close (tie.spec take-staged-colour-requires returns)
+set-system-failure-level-spec = tie.close (tie.spec store-level-setting-requires returns)

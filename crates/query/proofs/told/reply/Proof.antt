@@ -11,9 +11,6 @@ status-reply-requires c κs = search needs
 setting-reply-requires : tie.Need-setting-reply-requires
 setting-reply-requires c κs = search needs
 
-level-at-requires : tie.Need-level-at-requires
-level-at-requires c κs = search needs
-
 value-requires : tie.Need-value-requires
 value-requires c κs = search needs
 
@@ -30,7 +27,7 @@ returns-2 c = simp (← c .setting-reply .ensures, c .before .match .keys2)
 
 returns-3 : tie.Need-returns-3
 unfolding reply
-returns-3 c = simp (c .value .ensures, ← c .before .level-at .ensures, c .before .before .before .match .keys3)
+returns-3 c = simp (c .value .ensures, c .before .match .keys3)
 
 returns-4 : tie.Need-returns-4
 unfolding reply
@@ -46,7 +43,6 @@ reply-spec =
     (tie.spec
     status-reply-requires
     setting-reply-requires
-    level-at-requires
     value-requires
     identity-reply-requires
     returns

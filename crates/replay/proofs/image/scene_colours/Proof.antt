@@ -1,4 +1,4 @@
--- `image::scene_colours` is safe and ends. The measure is the number of colours that are left.
+-- `image::scene_colours` is safe and ends. The measure is the number of scenes that are left.
 use Prim.Native.Nat.{_≤_, _-_}
 use mathlib.Core.Path.{_≡_}
 use lib.ListN.{length}
@@ -7,19 +7,19 @@ use Rattle.replay.proofs.image.scene_colours.Statement.{statement}
 use Rattle.replay.proofs.image.scene_colours.Tie as tie
 
 abbrev Inv-loop : tie.InvT-loop
-Inv-loop d colours sum₀ i₀ sum i = (i ≤ 16) × (length colours ≡ 16)
+Inv-loop d scenes sum₀ i₀ sum i = (i ≤ 16) × (length scenes ≡ 16)
 
 abbrev μ-loop : tie.MeasureT-loop
-μ-loop d colours sum₀ i₀ sum i = 16 - i
+μ-loop d scenes sum₀ i₀ sum i = 16 - i
 
 loop-holds : tie.Need-loop-holds Inv-loop μ-loop
 loop-holds c = search needs
 
-mul-colour : tie.Need-mul-colour Inv-loop μ-loop
-mul-colour c = search needs
+mul-entry : tie.Need-mul-entry Inv-loop μ-loop
+mul-entry c = search needs
 
-array-copy-out-colour : tie.Need-array-copy-out-colour Inv-loop μ-loop
-array-copy-out-colour c = search needs
+array-copy-out-entry : tie.Need-array-copy-out-entry Inv-loop μ-loop
+array-copy-out-entry c = search needs
 
 setting-requires : tie.Need-setting-requires Inv-loop μ-loop
 setting-requires c κs = search needs
@@ -43,8 +43,8 @@ scene-colours-spec =
     Inv-loop
     μ-loop
     loop-holds
-    mul-colour
-    array-copy-out-colour
+    mul-entry
+    array-copy-out-entry
     setting-requires
     add-i
     loop-less

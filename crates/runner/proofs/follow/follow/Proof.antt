@@ -10,8 +10,6 @@ use native.Mathlib.Omega.{arith}
 use mathlib.Core.Logic.{⊎-elim}
 use lib.ListN.{getD, set}
 use Rattle.bank.specs.declared.memory.Written.{Written}
-use Rattle.calls.specs.Colours.{withColour}
-use Rattle.calls.specs.Memory.{withBanks}
 use Rattle.calls.specs.Power.{powerCycle}
 use Rattle.colour.specs.declared.record.Colour.{Colour}
 use Rattle.colour.specs.Record.{withFeatures}
@@ -19,24 +17,28 @@ use Rattle.colour.specs.Staging.{loadTemporariesFrom, takeStagedColour}
 use Rattle.colour.specs.Report.{reportFrom}
 use Rattle.colour.specs.Steps.{storeTcLimit}
 use Rattle.query.specs.Heard.{shown}
-use Rattle.query.proofs.Parts.{query-walks}
+use Rattle.query.proofs.Parts.{query-tells, query-walks}
+use Rattle.query.specs.Reply.{query, seenWith, told}
 use Rattle.gear.specs.Answer.{locationAnswer, valueAnswer}
 use Rattle.gear.specs.declared.answer.Answer.{Answer}
 use Rattle.gear.specs.declared.answer.Outcome.{Outcome}
 use Rattle.gear.specs.declared.command.StandardCommand.the-variants.{Config}
 use Rattle.colour.specs.Activation.{recall}
-use Rattle.colour.specs.declared.setting.ColourSetting.{ColourSetting}
 use Rattle.colour.specs.declared.staging.Taken.{Taken}
-use Rattle.step.proofs.Slots.{slot, level-at, colour-at, stored-at}
+use Rattle.step.proofs.Slots.{slot, scene-at, stored-at}
 use Rattle.gear.specs.declared.marks.Marks.{Marks}
 use Rattle.gear.specs.declared.record.Gear.{Gear}
-use Rattle.gear.specs.Write.{levelSetting, recalledLevels, withFades, withGroups, withLight, withScene, withMarks, withStored, arcWrite, configWrite, enableWrite, identify, recallScene, removeScene, setPowerOnLevel, setScene, setSystemFailureLevel, write}
+use Rattle.gear.specs.Write.{arcWrite, configWrite, enableWrite, identify, recallScene, recalledLevels, removeScene, setFades, setPowerOnLevel, setScene, setSystemFailureLevel, write}
 use Rattle.level.specs.declared.levels.Levels.{Levels}
 use Rattle.step.specs.Step.{commandAt, step, temperature}
 use Rattle.runner.proofs.Running.{answer-more, line-room, line-more, state-more, told-none}
 use Rattle.step.proofs.OnFit.{at-write, at-query, at-read, at-stored, at-value, at-limit, at-tc-step, at-stage, at-activate, at-power-cycle, at-copy-report, at-features, at-none, report-left, report-told, step-kept}
 use Rattle.gear.specs.Marks.{asked}
+use Rattle.gear.specs.Parts.{withBanks, withColour, withLight, withMarks, withScenes, withSettings, withWritten}
 use Rattle.gear.specs.Record.{fitb}
+use Rattle.gear.specs.declared.settings.LevelSetting.{LevelSetting}
+use Rattle.gear.specs.Scene.{nowhere, stored}
+use Rattle.gear.specs.Settings.{levelSetting, storeLevelSetting, withFailure, withGroups, withOn}
 use Rattle.numbers.specs.Numbers.{pick}
 use Rattle.runner.specs.Line.{Wrote, lineText}
 use Rattle.runner.specs.Run.{answerAfter, performed, stateAfter, textAfter}
@@ -65,28 +67,15 @@ meets e l m = (l ∙ ap (λ (x : Outcome). x .gear) (sym e), m ∙ ap (λ (x : O
 light : (g : Gear) {l l′ : Levels} {m m′ : Marks} {c c′ : Colour} → l ≡ l′ → m ≡ m′ → c ≡ c′ → withLight g l m c ≡ withLight g l′ m′ c′
 light g e f h = rw (e, f, h) refl
 
--- a scene stored: its level, its colour and what is left staged
+-- a scene stored, and what is left staged
 scene-put :
-    {s low : ℕ} → s ≡ low → low < 16 → (g : Gear) (v : ℕ) {m m′ : Marks} {x x′ : ColourSetting} {c c′ : Colour} →
-    m ≡ m′ → x ≡ x′ → c ≡ c′ →
-    record {
-      unit = g .unit;
-      enabled = g .enabled;
-      levels = g .levels;
-      marks = m;
-      on = g .on;
-      failure = g .failure;
-      fades = g .fades;
-      groups = g .groups;
-      scenes = set (g .scenes) low v;
-      colours = set (g .colours) low x;
-      lamp = g .lamp;
-      faults = g .faults;
-      curve = g .curve;
-      colour = c;
-      banks = g .banks;
-    } ≡ withScene (withMarks g m′) s v x′ c′
-scene-put is h g v {x′ = x′} e p q = rw (e, p, q, stored-at is h (g .scenes) v, stored-at is h (g .colours) x′) refl
+    {s low : ℕ} → s ≡ low → low < 16 → (g : Gear) {m m′ : Marks} {x x′ : LevelSetting} {c c′ : Colour} → m ≡ m′ → x ≡ x′ → c ≡ c′ →
+    withWritten g (g .levels) m c (g .settings) (set (g .scenes) low x) ≡ withScenes (withMarks g m′) (stored (g .scenes) s x′) c′
+scene-put is h g {x′ = x′} e p q = rw (e, p, q, stored-at is h (g .scenes) x′) refl
+
+-- what a query tells, from the entry of the scene that it names
+telling : (g : Gear) (a : ℕ) → a % 16 < 16 → told (seenWith g (getD (g .scenes) (a % 16) nowhere .level)) a ≡ query g a .answer
+telling g a low = ap (λ (x : LevelSetting). told (seenWith g (x .level)) a) (scene-at refl low (g .scenes)) ∙ sym (query-tells g a)
 
 -- a kind that is none of those listed
 past : {k n : ℕ} → k ≤ n → (n ≡ k → ⊥) → suc k ≤ n
@@ -98,7 +87,7 @@ met :
     let steps = at .before .before .before .args .steps .now in
     (c .match .state ≡ performed steps (at .loop .state) (at .loop .k) .gear) ×
     (c .match .answer ≡ performed steps (at .loop .state) (at .loop .k) .answer)
-unfolding performed write arcWrite recallScene configWrite identify enableWrite setScene removeScene setPowerOnLevel setSystemFailureLevel withFeatures powerCycle
+unfolding performed write arcWrite recallScene configWrite identify enableWrite setScene removeScene setPowerOnLevel setSystemFailureLevel storeLevelSetting withFeatures powerCycle
 met c =
     let at = c .before .before .before .before .before .before in
     let g = at .loop .state in
@@ -112,15 +101,15 @@ met c =
     let a-byte : a < 256 = omega (arith, c .before .before .before .shared-slice-known3 .given (i + 1)) in
     ⊎-elim
     (λ w.
-    let scene = ap (λ (x : ColourSetting). shown (g .colour .active) (g .on .colour) (g .failure .colour) x a) (colour-at refl low (g .colours)) in
-    let report = ap (reportFrom (g .colour)) (w .12 .ensures ∙ scene) ∙ report-told g a (sym (w .6 .ensures) ∙ w .7 .taken) in
+    let scene = ap (λ (x : LevelSetting). shown (g .colour .active) (g .settings .on .colour) (g .settings .failure .colour) (x .colour) a) (scene-at refl low (g .scenes)) in
+    let report = ap (reportFrom (g .colour)) (w .13 .ensures ∙ scene) ∙ report-told g a (sym (w .7 .ensures) ∙ w .8 .taken) in
     meets (at-query g f a b d (w .0 .keys1))
-    (w .15 ∙ light g refl (w .4 .ensures) (w .14 .ensures ∙ report) ∙ sym (query-walks g a)) (w .16 ∙ w .1 .ensures))
+    (w .16 ∙ light g refl (w .5 .ensures) (w .15 .ensures ∙ report) ∙ sym (query-walks g a)) (w .17 ∙ w .2 .ensures ∙ telling g a low))
     (⊎-elim
     (λ w.
     meets (at-query g f a b d (w .0 .keys1))
-    (w .8 ∙ light g refl (w .4 .ensures) (report-left g a (sym (w .6 .ensures) ∙ w .7 .left)) ∙ sym (query-walks g a))
-    (w .9 ∙ w .1 .ensures))
+    (w .9 ∙ light g refl (w .5 .ensures) (report-left g a (sym (w .7 .ensures) ∙ w .8 .left)) ∙ sym (query-walks g a))
+    (w .10 ∙ w .2 .ensures ∙ telling g a low))
     (⊎-elim (λ w. meets (at-read g f a b d (w .0 .keys2)) (w .4) (w .5 ∙ w .3 .ensures ∙ ap locationAnswer (w .2 .ensures)))
     (⊎-elim
     (λ w.
@@ -152,9 +141,9 @@ met c =
     (λ w.
     let is = slot _ a a-byte (sym (w .4 .given .1) ∙ w .2 .ensures) in
     meets (at-write g f a b d (w .1 .taken) (w .2 .ensures) (w .4 .given .1))
-    (w .13 ∙
-    light g (w .7 .ensures ∙ ap (recalledLevels (g .levels)) (level-at is low (g .scenes))) (w .9 .ensures)
-    (w .12 .ensures ∙ ap (recall (g .colour)) (colour-at is low (g .colours)))) (w .14))
+    (w .12 ∙
+    light g (w .7 .ensures ∙ ap (λ (x : LevelSetting). recalledLevels (g .levels) (x .level)) (scene-at is low (g .scenes))) (w .9 .ensures)
+    (w .11 .ensures ∙ ap (λ (x : LevelSetting). recall (g .colour) (x .colour)) (scene-at is low (g .scenes)))) (w .13))
     (⊎-elim
     (λ w.
     meets (at-write g f a b d (w .1 .taken) (w .2 .ensures) (w .4 .given .1 ∙ ap Config (w .9 .given .1)))
@@ -166,53 +155,53 @@ met c =
     (⊎-elim
     (λ w.
     meets (at-write g f a b d (w .1 .taken) (w .2 .ensures) (w .4 .given .1 ∙ ap Config (w .9 .given .1)))
-    (w .15 ∙
-    ap₂ (λ (m : Marks) (t : Taken). withStored (withMarks g m) (g .on) (levelSetting b (t .setting)) (g .fades) (g .groups) (t .colour))
-    (w .7 .ensures) (w .12 .ensures)) (w .16))
+    (w .16 ∙
+    ap₂ (λ (m : Marks) (t : Taken). withSettings (withMarks g m) (withFailure (g .settings) (levelSetting b (t .setting))) (t .colour))
+    (w .7 .ensures) (w .12 .ensures)) (w .17))
     (⊎-elim
     (λ w.
     meets (at-write g f a b d (w .1 .taken) (w .2 .ensures) (w .4 .given .1 ∙ ap Config (w .9 .given .1)))
-    (w .15 ∙
-    ap₂ (λ (m : Marks) (t : Taken). withStored (withMarks g m) (levelSetting b (t .setting)) (g .failure) (g .fades) (g .groups) (t .colour))
-    (w .7 .ensures) (w .12 .ensures)) (w .16))
+    (w .16 ∙
+    ap₂ (λ (m : Marks) (t : Taken). withSettings (withMarks g m) (withOn (g .settings) (levelSetting b (t .setting))) (t .colour))
+    (w .7 .ensures) (w .12 .ensures)) (w .17))
     (⊎-elim
     (λ w.
     meets (at-write g f a b d (w .1 .taken) (w .2 .ensures) (w .4 .given .1 ∙ ap Config (w .9 .given .1)))
-    (w .11 ∙ ap (λ (m : Marks). withFades (withMarks g m) b (g .fades .rate) (g .fades .extended)) (w .7 .ensures)) (w .12))
+    (w .11 ∙ ap (λ (m : Marks). setFades (withMarks g m) b (g .settings .fades .rate) (g .settings .fades .extended)) (w .7 .ensures)) (w .12))
     (⊎-elim
     (λ w.
     meets (at-write g f a b d (w .1 .taken) (w .2 .ensures) (w .4 .given .1 ∙ ap Config (w .9 .given .1)))
-    (w .11 ∙ ap (λ (m : Marks). withFades (withMarks g m) (g .fades .time) b (g .fades .extended)) (w .7 .ensures)) (w .12))
+    (w .11 ∙ ap (λ (m : Marks). setFades (withMarks g m) (g .settings .fades .time) b (g .settings .fades .extended)) (w .7 .ensures)) (w .12))
     (⊎-elim
     (λ w.
     meets (at-write g f a b d (w .1 .taken) (w .2 .ensures) (w .4 .given .1 ∙ ap Config (w .9 .given .1)))
-    (w .12 ∙ ap₂ (λ (m : Marks) (t : ℕ). withFades (withMarks g m) (g .fades .time) (g .fades .rate) t) (w .7 .ensures) (w .10 .ensures)) (w .13))
+    (w .12 ∙ ap₂ (λ (m : Marks) (t : ℕ). setFades (withMarks g m) (g .settings .fades .time) (g .settings .fades .rate) t) (w .7 .ensures) (w .10 .ensures)) (w .13))
     (⊎-elim
     (λ w.
     let command = w .4 .given .1 ∙ ap Config (w .9 .given .1) in
     let is = slot _ a a-byte (sym command ∙ w .2 .ensures) in
-    let taken = w .12 .ensures ∙ ap (takeStagedColour (g .colour)) (colour-at is low (g .colours)) in
+    let taken = w .12 .ensures ∙ ap (λ (x : LevelSetting). takeStagedColour (g .colour) (x .colour)) (scene-at is low (g .scenes)) in
     meets (at-write g f a b d (w .1 .taken) (w .2 .ensures) command)
     (w .15 ∙
-    scene-put is low g b (w .7 .ensures) (ap (λ (t : Taken). t .setting) taken) (ap (λ (t : Taken). t .colour) taken)) (w .16))
+    scene-put is low g (w .7 .ensures) (ap (λ (t : Taken). levelSetting b (t .setting)) taken) (ap (λ (t : Taken). t .colour) taken)) (w .16))
     (⊎-elim
     (λ w.
     let command = w .4 .given .1 ∙ ap Config (w .9 .given .1) in
     let is = slot _ a a-byte (sym command ∙ w .2 .ensures) in
     meets (at-write g f a b d (w .1 .taken) (w .2 .ensures) command)
-    (w .11 ∙ scene-put is low g 255 (w .7 .ensures) (w .10 .ensures) refl) (w .12))
+    (w .11 ∙ scene-put is low g (w .7 .ensures) (w .10 .ensures) refl) (w .12))
     (⊎-elim
     (λ w.
     let command = w .4 .given .1 ∙ ap Config (w .9 .given .1) in
     let is = slot _ a a-byte (sym command ∙ w .2 .ensures) in
     meets (at-write g f a b d (w .1 .taken) (w .2 .ensures) command)
-    (w .10 ∙ ap₂ (λ (m : Marks) (x : List Bool). withGroups (withMarks g m) x) (w .7 .ensures) (stored-at is low (g .groups) true)) (w .11))
+    (w .11 ∙ ap₂ (λ (m : Marks) (x : List Bool). withSettings (withMarks g m) (withGroups (g .settings) x) (g .colour)) (w .7 .ensures) (stored-at is low (g .settings .groups) true)) (w .12))
     (⊎-elim
     (λ w.
     let command = w .4 .given .1 ∙ ap Config (w .9 .given .1) in
     let is = slot _ a a-byte (sym command ∙ w .2 .ensures) in
     meets (at-write g f a b d (w .1 .taken) (w .2 .ensures) command)
-    (w .10 ∙ ap₂ (λ (m : Marks) (x : List Bool). withGroups (withMarks g m) x) (w .7 .ensures) (stored-at is low (g .groups) false)) (w .11))
+    (w .11 ∙ ap₂ (λ (m : Marks) (x : List Bool). withSettings (withMarks g m) (withGroups (g .settings) x) (g .colour)) (w .7 .ensures) (stored-at is low (g .settings .groups) false)) (w .12))
     (⊎-elim
     (λ w. meets (at-write g f a b d (w .1 .taken) (w .2 .ensures) (w .4 .given .1)) (w .9 ∙ w .8 .ensures) (w .10))
     (⊎-elim
@@ -240,6 +229,12 @@ kept c =
     let b-byte = c .before .before .shared-slice-known4 .given (i + 2) in
     let c-byte = c .before .shared-slice-known5 .given (i + 3) in
     rw (met c .0) (step-kept (at .loop .state) _ _ _ (omega (arith, b-byte)) (omega (arith, c-byte)) (at .loop .inv .2) _)
+
+-- where no lines are wanted, none are written
+unlined :
+    (lines : Bool) (x y : List ℕ) {old out : List ℕ} {at : ℕ} → lines ≡ false → Wrote old 0 (pick lines x []) out at →
+    Wrote old 0 (pick lines y []) out at
+unlined lines x y e w = rw e (rw e at w)
 
 loop-holds : tie.Need-loop-holds Inv-loop μ-loop
 unfolding stateAfter answerAfter
@@ -272,6 +267,12 @@ shared-slice-read-c c = omega (arith, c .before)
 cast-slot : tie.Need-cast-slot Inv-loop μ-loop
 cast-slot c = search needs
 
+mul-scene : tie.Need-mul-scene Inv-loop μ-loop
+mul-scene c = search needs
+
+element-copy-out-scene : tie.Need-element-copy-out-scene Inv-loop μ-loop
+element-copy-out-scene c = search needs
+
 told-requires : tie.Need-told-requires Inv-loop μ-loop
 told-requires c κs = search needs
 
@@ -281,11 +282,11 @@ walked-requires c κs = search needs
 reports-requires : tie.Need-reports-requires Inv-loop μ-loop
 reports-requires c κs = search needs
 
-mul-shown : tie.Need-mul-shown Inv-loop μ-loop
-mul-shown c = search needs
+mul-entry : tie.Need-mul-entry Inv-loop μ-loop
+mul-entry c = search needs
 
-element-copy-out-shown : tie.Need-element-copy-out-shown Inv-loop μ-loop
-element-copy-out-shown c = search needs
+element-copy-out-entry : tie.Need-element-copy-out-entry Inv-loop μ-loop
+element-copy-out-entry c = search needs
 
 shown-requires : tie.Need-shown-requires Inv-loop μ-loop
 shown-requires c κs = search needs
@@ -365,20 +366,17 @@ arc-power-activation-requires c κs = search needs
 enum-told : tie.Need-enum-told Inv-loop μ-loop
 enum-told c = search needs
 
-element-copy-out-recalled-levels : tie.Need-element-copy-out-recalled-levels Inv-loop μ-loop
-element-copy-out-recalled-levels c = search needs
+mul-entry-2 : tie.Need-mul-entry-2 Inv-loop μ-loop
+mul-entry-2 c = search needs
+
+element-copy-out-entry-2 : tie.Need-element-copy-out-entry-2 Inv-loop μ-loop
+element-copy-out-entry-2 c = search needs
 
 recalled-levels-requires : tie.Need-recalled-levels-requires Inv-loop μ-loop
 recalled-levels-requires c κs = search needs
 
 asked-requires-2 : tie.Need-asked-requires-2 Inv-loop μ-loop
 asked-requires-2 c κs = search needs
-
-mul-recall : tie.Need-mul-recall Inv-loop μ-loop
-mul-recall c = search needs
-
-element-copy-out-recall : tie.Need-element-copy-out-recall Inv-loop μ-loop
-element-copy-out-recall c = search needs
 
 recall-requires : tie.Need-recall-requires Inv-loop μ-loop
 recall-requires c κs = search needs
@@ -428,32 +426,26 @@ extended-fade-requires c κs = search needs
 enum-told-9 : tie.Need-enum-told-9 Inv-loop μ-loop
 enum-told-9 c = search needs
 
-mul-take-staged-colour : tie.Need-mul-take-staged-colour Inv-loop μ-loop
-mul-take-staged-colour c = search needs
+mul-entry-3 : tie.Need-mul-entry-3 Inv-loop μ-loop
+mul-entry-3 c = search needs
 
-element-copy-out-take-staged-colour : tie.Need-element-copy-out-take-staged-colour Inv-loop μ-loop
-element-copy-out-take-staged-colour c = search needs
+element-copy-out-entry-3 : tie.Need-element-copy-out-entry-3 Inv-loop μ-loop
+element-copy-out-entry-3 c = search needs
 
 take-staged-colour-requires-3 : tie.Need-take-staged-colour-requires-3 Inv-loop μ-loop
 take-staged-colour-requires-3 c κs = search needs
 
-element-write-state : tie.Need-element-write-state Inv-loop μ-loop
-element-write-state c = search needs
+mul-stored : tie.Need-mul-stored Inv-loop μ-loop
+mul-stored c = search needs
 
-mul-setting : tie.Need-mul-setting Inv-loop μ-loop
-mul-setting c = search needs
-
-element-set-from-setting : tie.Need-element-set-from-setting Inv-loop μ-loop
-element-set-from-setting c = search needs
+element-set-from-stored : tie.Need-element-set-from-stored Inv-loop μ-loop
+element-set-from-stored c = search needs
 
 enum-told-10 : tie.Need-enum-told-10 Inv-loop μ-loop
 enum-told-10 c = search needs
 
-element-write-state-2 : tie.Need-element-write-state-2 Inv-loop μ-loop
-element-write-state-2 c = search needs
-
-mask-requires : tie.Need-mask-requires Inv-loop μ-loop
-mask-requires c κs = search needs
+unset-requires : tie.Need-unset-requires Inv-loop μ-loop
+unset-requires c κs = search needs
 
 mul-none : tie.Need-mul-none Inv-loop μ-loop
 mul-none c = search needs
@@ -464,14 +456,14 @@ element-set-from-none c = search needs
 enum-told-11 : tie.Need-enum-told-11 Inv-loop μ-loop
 enum-told-11 c = search needs
 
-element-write-state-3 : tie.Need-element-write-state-3 Inv-loop μ-loop
-element-write-state-3 c = search needs
+element-write-settings : tie.Need-element-write-settings Inv-loop μ-loop
+element-write-settings c = search needs
 
 enum-told-12 : tie.Need-enum-told-12 Inv-loop μ-loop
 enum-told-12 c = search needs
 
-element-write-state-4 : tie.Need-element-write-state-4 Inv-loop μ-loop
-element-write-state-4 c = search needs
+element-write-settings-2 : tie.Need-element-write-settings-2 Inv-loop μ-loop
+element-write-settings-2 c = search needs
 
 enum-told-13 : tie.Need-enum-told-13 Inv-loop μ-loop
 enum-told-13 c = search needs
@@ -553,7 +545,7 @@ loop-again-2 c =
       omega (arith, below),
       met m .0 ∙ ap (λ (x : Gear). performed steps x k .gear) (at .loop .inv .1) ∙ sym (state-more steps g k),
       kept m,
-      rw (c .if3 .left) (rw (c .if3 .left) at (at .loop .inv .3)),
+      unlined (start .args .lines) (textAfter steps g k) (textAfter steps g (k + 1)) (c .if3 .left) (at .loop .inv .3),
       at .loop .inv .4,
       met m .1 ∙ ap (λ (x : Gear). performed steps x k .answer) (at .loop .inv .1) ∙ sym (answer-more steps g k),
     )
@@ -583,11 +575,13 @@ follow-spec =
     add-c
     shared-slice-read-c
     cast-slot
+    mul-scene
+    element-copy-out-scene
     told-requires
     walked-requires
     reports-requires
-    mul-shown
-    element-copy-out-shown
+    mul-entry
+    element-copy-out-entry
     shown-requires
     load-report-from-requires
     memory-location-requires
@@ -614,11 +608,10 @@ follow-spec =
     asked-requires
     arc-power-activation-requires
     enum-told
-    element-copy-out-recalled-levels
+    mul-entry-2
+    element-copy-out-entry-2
     recalled-levels-requires
     asked-requires-2
-    mul-recall
-    element-copy-out-recall
     recall-requires
     enum-known-command-2
     configured-requires
@@ -635,21 +628,19 @@ follow-spec =
     enum-told-8
     extended-fade-requires
     enum-told-9
-    mul-take-staged-colour
-    element-copy-out-take-staged-colour
+    mul-entry-3
+    element-copy-out-entry-3
     take-staged-colour-requires-3
-    element-write-state
-    mul-setting
-    element-set-from-setting
+    mul-stored
+    element-set-from-stored
     enum-told-10
-    element-write-state-2
-    mask-requires
+    unset-requires
     mul-none
     element-set-from-none
     enum-told-11
-    element-write-state-3
+    element-write-settings
     enum-told-12
-    element-write-state-4
+    element-write-settings-2
     enum-told-13
     reset-gear-requires
     enum-told-14

@@ -1,7 +1,7 @@
--- `record::LevelSetting::factory` meets its contract: the callees give the parts.
+-- `settings::LevelSetting::factory` meets its contract: the callees give the parts.
 use borrow.Author.Needs.{needs}
-use Rattle.gear.proofs.record.LevelSetting.factory.Statement.{statement}
-use Rattle.gear.proofs.record.LevelSetting.factory.Tie as tie
+use Rattle.gear.proofs.settings.LevelSetting.factory.Statement.{statement}
+use Rattle.gear.proofs.settings.LevelSetting.factory.Tie as tie
 
 is-dt8-requires : tie.Need-is-dt8-requires
 is-dt8-requires c κs = search needs

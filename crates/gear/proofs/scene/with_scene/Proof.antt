@@ -1,9 +1,9 @@
--- `scene::with_colour` meets its contract: at each return the tests that led there decide the cases of `stored`.
+-- `scene::with_scene` meets its contract: at each return the tests that led there decide the cases of `stored`.
 use borrow.Author.Tests.{lt-leb, le-leb}
 use Rattle.gear.specs.Scene.{stored}
 use borrow.Author.Needs.{needs}
-use Rattle.gear.proofs.scene.with_colour.Statement.{statement}
-use Rattle.gear.proofs.scene.with_colour.Tie as tie
+use Rattle.gear.proofs.scene.with_scene.Statement.{statement}
+use Rattle.gear.proofs.scene.with_scene.Tie as tie
 
 returns : tie.Need-returns
 unfolding stored
@@ -19,5 +19,5 @@ returns-2 : tie.Need-returns-2
 unfolding stored
 returns-2 c = simp (lt-leb _ _ (c .if1 .left))
 
-pub with-colour-spec : {M : Type 1} → statement M
-with-colour-spec = tie.close (tie.spec returns mul-next array-set-from-next returns-2)
+pub with-scene-spec : {M : Type 1} → statement M
+with-scene-spec = tie.close (tie.spec returns mul-next array-set-from-next returns-2)
