@@ -5,6 +5,7 @@ use Rattle.demands.specs.Calls.{Behaviour, Call, perform}
 use Rattle.demands.specs.Demands.{Demanded, Demands}
 use Rattle.demands.specs.LastOffset.{LastOffset}
 use Rattle.demands.specs.Promises.{Promised}
+use Rattle.demands.specs.Scenes.{TwoArrays}
 use Rattle.demands.proofs.Absent.{absent, host-absent}
 use Rattle.demands.proofs.Blind.{keeps-blind}
 use Rattle.demands.proofs.Exactly.{exactly}
@@ -18,6 +19,7 @@ use Rattle.demands.proofs.PowerCycle.{power-cycle-breaks}
 use Rattle.demands.proofs.Promises.{promised-rule, rule-promised}
 use Rattle.demands.proofs.Readings.{readings}
 use Rattle.demands.proofs.Runs.{runs}
+use Rattle.demands.proofs.Scenes.{fresh-arrays, paired, two-arrays}
 use Rattle.demands.proofs.Sessions.{sessions}
 use Rattle.demands.proofs.Steps.{stepped, step-exactly, unlisted-exactly}
 use Rattle.gear.specs.declared.record.Gear.{Gear}
@@ -48,6 +50,9 @@ promised-last-offset = by-promise LastOffset last-offset
 pub promised-absent : (f : Behaviour) → ((c : Call) (g : Gear) → Promised c g (f c g)) → Absent f
 promised-absent = by-promise Absent absent
 
+pub promised-two-arrays : (f : Behaviour) → ((c : Call) (g : Gear) → Promised c g (f c g)) → TwoArrays f
+promised-two-arrays = by-promise TwoArrays two-arrays
+
 pub demands : Demands
 demands =
     record {
@@ -63,6 +68,9 @@ demands =
             impostors = caught;
             last-offset = last-offset;
             absent = absent;
+            two-arrays = two-arrays;
+            fresh-arrays = fresh-arrays;
+            paired = paired;
           };
       by-the-promises =
           record {
@@ -76,5 +84,6 @@ demands =
             bank-reads = bank-reads;
             absent = promised-absent;
             host-absent = host-absent;
+            two-arrays = promised-two-arrays;
           };
     }

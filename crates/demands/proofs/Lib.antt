@@ -30,6 +30,7 @@ pub mod ProfileAndFile
 pub mod Promises
 pub mod Readings
 pub mod Runs
+pub mod Scenes
 pub mod Sessions
 pub mod StepByStep
 pub mod Steps

@@ -16,6 +16,7 @@ use Rattle.demands.specs.LastOffset.{BankReads, LastOffset}
 use Rattle.demands.specs.Promises.{Promised, PromisedNew, PromisedStep}
 use Rattle.demands.specs.Refusals.{Judged, RefusesExactly}
 use Rattle.demands.specs.Runs.{Runs}
+use Rattle.demands.specs.Scenes.{FreshArrays, Paired, TwoArrays}
 use Rattle.demands.specs.Sessions.{Sessions}
 use Rattle.demands.specs.Steps.{entry, kinds, Stepped, stepRefusal}
 use Rattle.demands.specs.Table.{Readings}
@@ -55,9 +56,12 @@ pub record ByTheRules : Type 0 where
   pub sessions : Sessions
   -- the impostors of document 01 that take a record; the fifth is a runner, among the sessions
   pub impostors : Caught
-  -- requests 6 and 2 of document 02
+  -- requests 6, 2 and 14 of document 02
   pub last-offset : LastOffset perform
   pub absent : Absent perform
+  pub two-arrays : TwoArrays perform
+  pub fresh-arrays : FreshArrays
+  pub paired : Paired
 
 -- The Rattle functions, by their own promises alone
 pub record ByThePromises : Type 1 where
@@ -76,6 +80,8 @@ pub record ByThePromises : Type 1 where
   -- request 2; and of what a host is told by its library
   pub absent : (f : Behaviour) → ((c : Call) (g : Gear) → Promised c g (f c g)) → Absent f
   pub host-absent : HostAbsent
+  -- request 14
+  pub two-arrays : (f : Behaviour) → ((c : Call) (g : Gear) → Promised c g (f c g)) → TwoArrays f
 
 pub record Demands : Type 1 where
   pub by-the-rules : ByTheRules

@@ -14,6 +14,7 @@ pub mod Promises
 pub mod Readings
 pub mod Refusals
 pub mod Runs
+pub mod Scenes
 pub mod Sessions
 pub mod Steps
 pub mod Table
