@@ -1,7 +1,7 @@
 -- Every call keeps a fit record fit, and every call but the power cycle the bounds of the level.
 use mathlib.Core.Path.{_≡_, refl, ap}
 use mathlib.Core.Bool.{true}
-use mathlib.Core.Logic.{⊎-elim}
+use mathlib.Core.Logic.{_⊎_, inl, inr, ⊎-elim}
 use Rattle.demands.specs.Calls.{Call, perform}
 use Rattle.demands.specs.Calls.Call.{StandardWrite, ArcPower, Query, Matches, TcStep, XyStep, StoreTcLimit, Stage, Activate, CopyReport, SetFeatures, ColorValue, ColourStatus, Features, ControlByte, FeatureByte, Automatic, ReadMemory, WriteMemory, AdvancesDtr0, ImplementsBank, SetLockByte, SetLocation, SetGearUnit, SetLastOffset, ClearNumber, Hear, HoldsFrame, HearElsewhere, PowerCycle, StatusByte, LampOn, FailureBits, ThermalShutDown, LampFailure, ActualLevel, IsType, SetEnabled, SetLampFailure, SetLampStarting, SetFaults}
 use Rattle.demands.specs.Kept.{Sized, KeepsFit, KeepsBounds}
@@ -65,15 +65,16 @@ keeps-tested (SetFaults faults) g h e = set-faults-kept g faults e
 pub keeps-fit : KeepsFit perform
 keeps-fit c g h f = fit-exactly (perform c g .gear) .1 (keeps-tested c g h (fit-exactly g .0 f))
 
--- by a call that writes
-writes-bounded : {c : Call} → Writes c → (g : Gear) → (c ≡ PowerCycle → ⊥) → Bounded (g .levels) → Bounded (perform c g .gear .levels)
-unfolding perform
-writes-bounded (standard byte dtr0) g h b = standard-write-bounded g byte dtr0 b
-writes-bounded (arc level) g h b = arc-power-bounded g level b
-writes-bounded cycle g h b = absurd (h refl)
-
 still : (g h : Gear) → written h ≡ written g → Bounded (g .levels) → Bounded (h .levels)
 still g h e b = rw (ap (λ x. x .0) e) b
 
+-- a call that writes keeps the bounds, or is the power cycle
+writes-bounded : {c : Call} → Writes c → (g : Gear) → Bounded (g .levels) → Bounded (perform c g .gear .levels) ⊎ (c ≡ PowerCycle)
+unfolding perform
+writes-bounded (standard byte dtr0) g b = inl (standard-write-bounded g byte dtr0 b)
+writes-bounded (arc level) g b = inl (arc-power-bounded g level b)
+writes-bounded cycle g b = inr refl
+
 pub keeps-bounds : KeepsBounds perform
-keeps-bounds c g h b = ⊎-elim (λ e. still g (perform c g .gear) e b) (λ w. writes-bounded w g h b) (unwritten c g)
+keeps-bounds c g h b =
+    ⊎-elim (λ e. still g (perform c g .gear) e b) (λ w. ⊎-elim (λ kept. kept) (λ e. absurd (h e)) (writes-bounded w g b)) (unwritten c g)
