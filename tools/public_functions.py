@@ -44,10 +44,21 @@ RECORD = "Gear|Outcome"
 
 # the public functions that take a record and are no calls, with the reason
 NO_CALLS = {
+    "borrowed::write": "is `apply_standard_write` on a record that is lent",
+    "borrowed::power_cycle": "is `power_cycle` on a record that is lent",
     "gear::answer::done": "puts the answer Done beside the record that a call leaves",
     "gear::answer::refused": "puts a refusal beside the record that a call hands back",
     "gear::record::Gear::fit": "is the test itself",
     "gear::serve::tell": "makes the test for a call that only answers",
+    "slot::image::store": "puts a record into a slot",
+}
+
+
+# the public functions that are proved by hand, with the reason: of these the kit makes no reading of the promise that a line of
+# one outcome could name
+BY_HAND = {
+    "borrowed::write": "takes a reference to a struct; its promise is an equation for the answer and one for the record",
+    "borrowed::power_cycle": "takes a reference to a struct; its promise is an equation for the answer and one for the record",
 }
 
 

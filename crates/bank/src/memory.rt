@@ -8,15 +8,15 @@ pub const MEMORY_BANK_IDENTITY: u8 = 0;
 pub const MEMORY_BANK_PROFILE: u8 = 1;
 
 // How many bytes each bank stores.
-const IDENTITY_LEN: u8 = 29;
+pub const IDENTITY_LEN: u8 = 29;
 
-const PROFILE_LEN: u8 = 17;
+pub const PROFILE_LEN: u8 = 17;
 
 // The last offset of bank 1: what its offset 0 answers, and where writing ends.
-const PROFILE_LAST: u8 = 16;
+pub const PROFILE_LAST: u8 = 16;
 
 // Reserved in bank 0, and the indicator byte of any other bank (part 102, tables 8 and 9).
-const INDICATOR_BYTE: u8 = 1;
+pub const INDICATOR_BYTE: u8 = 1;
 
 // The offset, in bank 1, of the byte that locks the locations after it.
 pub const LOCK_BYTE: u8 = 2;
@@ -36,7 +36,7 @@ pub struct Written {
     pub banks: Banks,
 }
 
-fn is_byte(found: Location) -> bool
+pub fn is_byte(found: Location) -> bool
     ensures { λ r. ⌜ r ≡ isByte found ⌝ }
 {
     match found {
@@ -77,7 +77,7 @@ fn profile_location(profile: [u8; 17], offset: u8) -> Location
 }
 
 // A `bare` gear implements no indicator byte (part 102, table 8). In bank 0 that offset is reserved on every gear.
-fn lacks_indicator_byte(bare: bool, bank: u8, offset: u8) -> bool
+pub fn lacks_indicator_byte(bare: bool, bank: u8, offset: u8) -> bool
     ensures { λ r. ⌜ r ≡ lacksIndicatorByte bare bank offset ⌝ }
 {
     if bare {

@@ -18,7 +18,7 @@ pub enum Address {
 }
 
 // An address above 63 is no gear's.
-fn is_short(short: Short, address: u8) -> bool
+pub fn is_short(short: Short, address: u8) -> bool
     ensures { λ r. ⌜ r ≡ isShort short address ⌝ }
 {
     match short {
@@ -52,7 +52,7 @@ fn matching(gear: Gear, address: Address) -> Answer
 }
 
 // There are sixteen groups.
-fn is_group_beyond(address: Address) -> bool
+pub fn is_group_beyond(address: Address) -> bool
     ensures { λ r. ⌜ r ≡ beyond address ⌝ }
 {
     match address {

@@ -41,7 +41,7 @@ fn waiting(frame: u16, repeats: bool) -> Pair
 }
 
 // Bit 0: the frame is carried out; bit 1: it completed a pair; bit 2: it split another one.
-fn heard_answer(repeats: bool, split: bool) -> Answer
+pub fn heard_answer(repeats: bool, split: bool) -> Answer
     ensures { λ r. ⌜ r ≡ heardAnswer repeats split ⌝ }
 {
     if repeats {

@@ -10,14 +10,14 @@ ghost use mathlib.Core.Path.{_≡_};
 ghost use Rattle.colour.specs.Activation.{unlinked, chosen, activated, strays, activate, automatic, isIdle, arcPower, recall};
 
 // The control with no channel linked.
-fn unlinked(control: u8) -> u8
+pub fn unlinked(control: u8) -> u8
     ensures { λ r. ⌜ r ≡ unlinked control ⌝ }
 {
     control / 64 * 64
 }
 
 // The staged control, unless it says 'no change'.
-fn chosen(control: u8, staged: u8) -> u8
+pub fn chosen(control: u8, staged: u8) -> u8
     ensures { λ r. ⌜ r ≡ chosen control staged ⌝ }
 {
     if staged == ColourSetting::CONTROL_MASK {

@@ -5,7 +5,7 @@ use numbers::word::clamp;
 ghost use mathlib.Core.Path.{_≡_};
 ghost use Rattle.colour.specs.Bounded.{storeBounded};
 
-pub(crate) struct BoundedTc {
+pub struct BoundedTc {
     pub limits: Limits,
     pub tc: u16,
     pub mode: ColorMode,
@@ -14,7 +14,7 @@ pub(crate) struct BoundedTc {
 
 impl BoundedTc {
     // Part 209, 9.13: the limit that the selector names, and then an active colour temperature is snapped and marked.
-    pub(crate) fn store(self, value: u16, selector: u8) -> BoundedTc
+    pub fn store(self, value: u16, selector: u8) -> BoundedTc
         ensures { λ r. ⌜ r ≡ storeBounded self value selector ⌝ }
     {
         if 3 < selector {

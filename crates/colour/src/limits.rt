@@ -19,7 +19,7 @@ impl Limits {
     // A stored limit of this value gives way to the physical one.
     pub const UNSET: u16 = 0xFFFF;
 
-    pub(crate) fn effective_coolest(self) -> u16
+    pub fn effective_coolest(self) -> u16
         ensures { λ r. ⌜ r ≡ effectiveCoolest self ⌝ }
     {
         if self.stored.coolest == Limits::UNSET {
@@ -29,7 +29,7 @@ impl Limits {
         }
     }
 
-    pub(crate) fn effective_warmest(self) -> u16
+    pub fn effective_warmest(self) -> u16
         ensures { λ r. ⌜ r ≡ effectiveWarmest self ⌝ }
     {
         if self.stored.warmest == Limits::UNSET {

@@ -16,7 +16,7 @@ const XY_STEP: u16 = 256;
 const XY_LAST: u16 = 0xFFFE;
 
 // One mirek, not past the effective limits.
-fn stepped_tc(tc: u16, limits: Limits, warmer: bool) -> u16
+pub fn stepped_tc(tc: u16, limits: Limits, warmer: bool) -> u16
     ensures { λ r. ⌜ r ≡ steppedTc tc limits warmer ⌝ }
 {
     if warmer {
@@ -25,7 +25,7 @@ fn stepped_tc(tc: u16, limits: Limits, warmer: bool) -> u16
     max(saturating_sub(tc, 1), limits.effective_coolest())
 }
 
-fn stepped_xy(at: u16, up: bool) -> u16
+pub fn stepped_xy(at: u16, up: bool) -> u16
     ensures { λ r. ⌜ r ≡ steppedXy at up ⌝ }
 {
     if up {

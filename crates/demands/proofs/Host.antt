@@ -19,7 +19,7 @@ use Rattle.gear.specs.declared.answer.Answer.{Answer}
 use Rattle.gear.specs.declared.answer.Answer.the-variants.{Done, Value, Nothing, Incapable, Refused}
 use Rattle.gear.specs.declared.answer.Outcome.{Outcome}
 use Rattle.gear.specs.declared.answer.Refusal.{Refusal}
-use Rattle.gear.specs.declared.answer.Refusal.the-variants.{Profile, Unfit, Byte, Group, File}
+use Rattle.gear.specs.declared.answer.Refusal.the-variants.{Profile, Unfit, Byte, Group, File, Length}
 use Rattle.gear.specs.declared.record.Gear.{Gear}
 use Rattle.gear.specs.Record.{fitb}
 use Rattle.numbers.proofs.Logic.{by-cases}
@@ -42,6 +42,7 @@ five-file (Refused Unfit) e = absurd (omega arith)
 five-file (Refused Byte) e = absurd (omega arith)
 five-file (Refused Group) e = absurd (omega arith)
 five-file (Refused File) e = refl
+five-file (Refused Length) e = absurd (omega arith)
 
 stepped-not-five : (t : Option Call) (g : Gear) (o : Outcome) → Stepped t g o → answerCode (o .answer) ≡ 5 → ⊥
 unfolding answerCode

@@ -18,12 +18,14 @@ pub mod OutcomesBank
 pub mod OutcomesCalls
 pub mod OutcomesColour
 pub mod OutcomesDaliGear
+pub mod OutcomesEngine
 pub mod OutcomesFile
 pub mod OutcomesGear
 pub mod OutcomesLevel
 pub mod OutcomesNumbers
 pub mod OutcomesQuery
 pub mod OutcomesRunner
+pub mod OutcomesSlot
 pub mod OutcomesStep
 pub mod PowerCycle
 pub mod ProfileAndFile

@@ -17,7 +17,7 @@ use Rattle.gear.specs.Answer.{refused}
 use Rattle.gear.specs.declared.answer.Answer.the-variants.{Refused}
 use Rattle.gear.specs.declared.answer.Outcome.{Outcome}
 use Rattle.gear.specs.declared.answer.Refusal.{Refusal}
-use Rattle.gear.specs.declared.answer.Refusal.the-variants.{Profile as ProfileRefused, Unfit, Byte, Group as GroupAbove, File as FileRefused}
+use Rattle.gear.specs.declared.answer.Refusal.the-variants.{Profile as ProfileRefused, Unfit, Byte, Group as GroupAbove, File as FileRefused, Length}
 use Rattle.gear.specs.declared.record.Gear.{Gear}
 use Rattle.gear.specs.Record.{fitb}
 use Rattle.numbers.proofs.Logic.{by-cases, no-false}
@@ -29,6 +29,7 @@ Named (some Unfit) c = ⊥
 Named (some Byte) c = Unlisted c
 Named (some GroupAbove) c = Above c
 Named (some FileRefused) c = ⊥
+Named (some Length) c = ⊥
 
 whom-named : (a : Address) → Named (groupRefusal a) (Matches a)
 whom-named (Short a) = tt

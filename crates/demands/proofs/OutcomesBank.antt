@@ -49,3 +49,9 @@ pub «setters::set_bank0_last_offset» : OneOutcome setters.set_bank0_last_offse
 
 pub «setters::clear_identification_number» : OneOutcome setters.clear_identification_number.Reads.Post
 «setters::clear_identification_number» κs args r r′ e e′ = determined
+
+pub «memory::is_byte» : OneOutcome memory.is_byte.Reads.Post
+«memory::is_byte» κs args r r′ e e′ = determined
+
+pub «memory::lacks_indicator_byte» : OneOutcome memory.lacks_indicator_byte.Reads.Post
+«memory::lacks_indicator_byte» κs args r r′ e e′ = determined

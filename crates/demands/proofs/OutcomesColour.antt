@@ -2,7 +2,9 @@
 use Rattle.demands.specs.Outcome.{OneOutcome}
 use Rattle.demands.proofs.Outcome.{determined}
 use Rattle.colour.proofs.activation
+use Rattle.colour.proofs.bounded
 use Rattle.colour.proofs.capability
+use Rattle.colour.proofs.limits
 use Rattle.colour.proofs.record
 use Rattle.colour.proofs.report
 use Rattle.colour.proofs.setting
@@ -85,3 +87,24 @@ pub «value::rgbwaf_control_byte» : OneOutcome value.rgbwaf_control_byte.Reads.
 
 pub «value::gear_features_byte» : OneOutcome value.gear_features_byte.Reads.Post
 «value::gear_features_byte» κs args r r′ e e′ = determined
+
+pub «activation::unlinked» : OneOutcome activation.unlinked.Reads.Post
+«activation::unlinked» κs args r r′ e e′ = determined
+
+pub «activation::chosen» : OneOutcome activation.chosen.Reads.Post
+«activation::chosen» κs args r r′ e e′ = determined
+
+pub «bounded::BoundedTc::store» : OneOutcome bounded.BoundedTc.store.Reads.Post
+«bounded::BoundedTc::store» κs args r r′ e e′ = determined
+
+pub «limits::Limits::effective_coolest» : OneOutcome limits.Limits.effective_coolest.Reads.Post
+«limits::Limits::effective_coolest» κs args r r′ e e′ = determined
+
+pub «limits::Limits::effective_warmest» : OneOutcome limits.Limits.effective_warmest.Reads.Post
+«limits::Limits::effective_warmest» κs args r r′ e e′ = determined
+
+pub «steps::stepped_tc» : OneOutcome steps.stepped_tc.Reads.Post
+«steps::stepped_tc» κs args r r′ e e′ = determined
+
+pub «steps::stepped_xy» : OneOutcome steps.stepped_xy.Reads.Post
+«steps::stepped_xy» κs args r r′ e e′ = determined

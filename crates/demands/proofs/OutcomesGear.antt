@@ -119,3 +119,6 @@ pub «write::apply_standard_write» : OneOutcome write.apply_standard_write.Read
 
 pub «write::direct_arc_power» : OneOutcome write.direct_arc_power.Reads.Post
 «write::direct_arc_power» κs args r r′ e e′ = determined
+
+pub «profile::Unit::min_level_floor» : OneOutcome profile.Unit.min_level_floor.Reads.Post
+«profile::Unit::min_level_floor» κs args r r′ e e′ = determined

@@ -5,7 +5,7 @@ use Rattle.gear.specs.declared.answer.Answer.{Answer}
 use Rattle.gear.specs.declared.answer.Answer.the-variants.{Done, Value, Nothing, Incapable, Refused}
 use Rattle.gear.specs.declared.answer.Outcome.{Outcome}
 use Rattle.gear.specs.declared.answer.Refusal.{Refusal}
-use Rattle.gear.specs.declared.answer.Refusal.the-variants.{Profile, Unfit, Byte, Group, File}
+use Rattle.gear.specs.declared.answer.Refusal.the-variants.{Profile, Unfit, Byte, Group, File, Length}
 use Rattle.gear.specs.declared.record.Gear.{Gear}
 use Rattle.bank.specs.declared.memory.Location.{Location}
 use Rattle.bank.specs.declared.memory.Location.the-variants.{Byte as Stored, Nothing as Unread}
@@ -19,6 +19,7 @@ refusalNumber Unfit = 2
 refusalNumber Byte = 3
 refusalNumber Group = 4
 refusalNumber File = 5
+refusalNumber Length = 7
 
 -- yes is 1, no is 0
 unfoldable pub flag : Bool → Answer

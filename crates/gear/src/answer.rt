@@ -13,6 +13,8 @@ pub enum Refusal {
     Byte,
     Group,
     File,
+    // A part of bytes that is not as long as a record's.
+    Length,
 }
 
 impl Refusal {
@@ -26,6 +28,7 @@ impl Refusal {
             Refusal::Byte => 3,
             Refusal::Group => 4,
             Refusal::File => 5,
+            Refusal::Length => 7,
         }
     }
 }

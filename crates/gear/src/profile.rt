@@ -76,7 +76,7 @@ impl Unit {
     }
 
     // Part 208, table 2: a switching gear goes down to 1.
-    pub(crate) fn min_level_floor(self) -> u8
+    pub fn min_level_floor(self) -> u8
         ensures { λ r. ⌜ r ≡ floor self ⌝ }
     {
         if self.is_dt7() {

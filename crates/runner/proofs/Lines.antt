@@ -8,7 +8,7 @@ use Rattle.colour.specs.declared.capability.Capability.{Capability}
 use Rattle.gear.specs.declared.answer.Answer.{Answer}
 use Rattle.gear.specs.declared.answer.Answer.the-variants.{Done, Value, Nothing, Incapable, Refused}
 use Rattle.gear.specs.declared.answer.Refusal.{Refusal}
-use Rattle.gear.specs.declared.answer.Refusal.the-variants.{Profile, Unfit, Byte, Group, File}
+use Rattle.gear.specs.declared.answer.Refusal.the-variants.{Profile, Unfit, Byte, Group, File, Length}
 use Rattle.runner.specs.Line.{digits, numberText, answerText, lineText, endText, badText}
 use Rattle.runner.proofs.Digits.{digits-length, digits-most}
 
@@ -25,6 +25,7 @@ refusal-length Unfit = refl
 refusal-length Byte = refl
 refusal-length Group = refl
 refusal-length File = refl
+refusal-length Length = refl
 
 answer-length : (a : Answer) → length (answerText a) ≤ 5
 unfolding answerText

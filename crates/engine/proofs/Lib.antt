@@ -1,0 +1,9 @@
+pub mod Blocks
+pub mod Places
+pub mod Querying
+pub mod Reporting
+pub mod Rows
+pub mod Scenes
+pub mod Serving
+pub mod Taking
+pub mod Telling

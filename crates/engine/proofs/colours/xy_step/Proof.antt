@@ -1,0 +1,44 @@
+-- `colours::xy_step` meets its contract: on an image of a fit record it is the step.
+use mathlib.Core.Path.{refl, sym, _∙_}
+use Rattle.calls.specs.Colours.{xyStepCall, recoloured}
+use Rattle.engine.proofs.Serving.{by-work, not-held, other-length, served}
+use borrow.Author.Needs.{needs}
+use Rattle.engine.proofs.colours.xy_step.Statement.{statement}
+use Rattle.engine.proofs.colours.xy_step.Tie as tie
+
+returns : tie.Need-returns
+returns c = other-length _ _ (c .if1 .taken)
+
+is-held-requires : tie.Need-is-held-requires
+is-held-requires c κs = search needs
+
+step-xy-requires : tie.Need-step-xy-requires
+step-xy-requires c κs = search needs
+
+same-length : tie.Need-same-length
+same-length c = search needs
+
+returns-2 : tie.Need-returns-2
+unfolding xyStepCall recoloured
+returns-2 c =
+    let b = c .before .before .before .before .before .before .before .before .before .args .slot .now in
+    served b (c .before .before .before .before .before .before .before .if1 .left) (c .before .before .before .before .before .before .before .before .slice-known .given) (sym (c .before .before .before .before .before .is-held .ensures) ∙ c .before .before .before .before .if2 .taken) _ _ _
+    (by-work _ b _ _ (λ g h. c .before .before .step-xy .ensures g h) (λ g h. refl))
+
+same-length-2 : tie.Need-same-length-2
+same-length-2 c = search needs
+
+returns-3 : tie.Need-returns-3
+returns-3 c = not-held _ _ (c .before .before .before .if1 .left) (sym (c .before .is-held .ensures) ∙ c .if2 .left)
+
+pub xy-step-spec : {M : Type 1} → statement M
+xy-step-spec =
+    tie.close
+    (tie.spec
+    returns
+    is-held-requires
+    step-xy-requires
+    same-length
+    returns-2
+    same-length-2
+    returns-3)

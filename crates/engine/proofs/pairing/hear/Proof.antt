@@ -1,0 +1,47 @@
+-- `pairing::hear` meets its contract: a held record is heard.
+use mathlib.Core.Path.{sym, _∙_}
+use Rattle.calls.specs.Pairing.{hearCall}
+use Rattle.engine.proofs.Serving.{by-works, not-held, other-length, served}
+use borrow.Author.Needs.{needs}
+use Rattle.engine.proofs.pairing.hear.Statement.{statement}
+use Rattle.engine.proofs.pairing.hear.Tie as tie
+
+returns : tie.Need-returns
+returns c = other-length _ _ (c .if1 .taken)
+
+is-held-requires : tie.Need-is-held-requires
+is-held-requires c κs = search needs
+
+heard-requires : tie.Need-heard-requires
+heard-requires c κs = search needs
+
+same-length : tie.Need-same-length
+same-length c = search needs
+
+returns-2 : tie.Need-returns-2
+unfolding hearCall
+returns-2 c =
+    let at = c .before .before .before .before in
+    let b = at .before .before .before .before .before .args .slot .now in
+    served b (at .before .before .before .if1 .left)
+    (at .before .before .before .before .slice-known .given)
+    (sym (at .before .is-held .ensures) ∙ at .if2 .taken) _ _ _
+    (by-works _ b _ _ (c .before .before .heard .ensures))
+
+same-length-2 : tie.Need-same-length-2
+same-length-2 c = search needs
+
+returns-3 : tie.Need-returns-3
+returns-3 c = not-held _ _ (c .before .before .before .if1 .left) (sym (c .before .is-held .ensures) ∙ c .if2 .left)
+
+pub hear-spec : {M : Type 1} → statement M
+hear-spec =
+    tie.close
+    (tie.spec
+    returns
+    is-held-requires
+    heard-requires
+    same-length
+    returns-2
+    same-length-2
+    returns-3)

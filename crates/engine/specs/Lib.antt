@@ -1,0 +1,4 @@
+pub mod Colours
+pub mod Reported
+pub mod Served
+pub mod Works

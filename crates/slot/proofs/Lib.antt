@@ -1,0 +1,9 @@
+pub mod Back
+pub mod Forth
+pub mod Indexed
+pub mod Limited
+pub mod Lists
+pub mod Passes
+pub mod Puts
+pub mod Read
+pub mod Scenes

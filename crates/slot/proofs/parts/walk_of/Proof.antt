@@ -1,0 +1,13 @@
+-- `parts::walk_of` meets its contract: the test decides.
+use borrow.Author.Tests.{lt-ltb, le-ltb}
+use Rattle.slot.proofs.parts.walk_of.Statement.{statement}
+use Rattle.slot.proofs.parts.walk_of.Tie as tie
+
+returns : tie.Need-returns
+returns c = simp (lt-ltb _ _ (c .if1 .taken))
+
+returns-2 : tie.Need-returns-2
+returns-2 c = simp (le-ltb _ _ (c .if1 .left))
+
+pub walk-of-spec : {M : Type 1} → statement M
+walk-of-spec = tie.close (tie.spec returns returns-2)

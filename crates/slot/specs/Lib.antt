@@ -1,0 +1,4 @@
+pub mod Image
+pub mod Record
+pub mod Held
+pub mod Calls
