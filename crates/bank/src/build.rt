@@ -3,7 +3,7 @@ ghost use Rattle.std.specs.Prelude.{◌≡◌};
 ghost use Rattle.bank.specs.Build.{with_identity, with_profile, bytes_of, build_bank0, build_bank1, build};
 
 // Bank 0 identifies the gear, and bank 1 is its maker's profile. A location of a bank is called by its offset.
-#[derive(Drop)]
+#[derive(Clone, Copy)]
 pub struct Banks {
     pub identity: [u8; 29],
     pub profile: [u8; 17],

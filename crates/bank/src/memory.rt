@@ -26,14 +26,14 @@ pub const LOCK_BYTE: u8 = 2;
 pub const UNLOCKED: u8 = 0x55;
 
 // What a location answers.
-#[derive(Drop)]
+#[derive(Clone, Copy)]
 pub enum Location {
     Byte(u8),
     Nothing,
 }
 
 // What a write answers, and the banks after it.
-#[derive(Drop)]
+#[derive(Clone, Copy)]
 pub struct Written {
     pub answer: Location,
     pub banks: Banks,

@@ -1,4 +1,6 @@
 // The two calls of a host that has one gear (document 02, item 10): each borrows its record and updates it there.
+#![tactic(auto)]
+
 ghost use Rattle.std.specs.Prelude.{◌≡◌};
 ghost use Rattle.calls.specs.Power.{power_cycle_call};
 ghost use Rattle.gear.specs.Write.{apply_standard_write};

@@ -9,7 +9,7 @@ use gear::scene::is_member;
 use gear::serve::tell;
 use query::status::is_missing;
 
-#[derive(Drop)]
+#[derive(Clone, Copy)]
 pub enum Address {
     Short(u8),
     Group(u8),

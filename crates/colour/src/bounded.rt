@@ -6,7 +6,7 @@ use crate::limits::Limits;
 use crate::tint::ColorMode;
 use numbers::word::clamp;
 
-#[derive(Drop)]
+#[derive(Clone, Copy)]
 pub struct BoundedTc {
     pub limits: Limits,
     pub tc: u16,

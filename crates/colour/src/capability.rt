@@ -4,7 +4,7 @@ ghost use Rattle.colour.specs.Capability.{capability_number, has};
 
 use crate::record::Capabilities;
 
-#[derive(Drop)]
+#[derive(Clone, Copy)]
 pub enum Capability {
     Xy,
     Tc,

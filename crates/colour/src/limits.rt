@@ -4,13 +4,13 @@ ghost use Rattle.colour.specs.Limits.{effective_coolest, effective_warmest, limi
 
 use numbers::word::{clamp, max, min};
 
-#[derive(Drop)]
+#[derive(Clone, Copy)]
 pub struct Range {
     pub coolest: u16,
     pub warmest: u16,
 }
 
-#[derive(Drop)]
+#[derive(Clone, Copy)]
 pub struct Limits {
     pub stored: Range,
     pub physical: Range,

@@ -6,14 +6,14 @@ use crate::limits::{Limits, Range};
 use crate::setting::ColourSetting;
 use crate::tint::Tint;
 
-#[derive(Drop)]
+#[derive(Clone, Copy)]
 pub struct Capabilities {
     pub tc: bool,
     pub xy: bool,
     pub channels: u8,
 }
 
-#[derive(Drop)]
+#[derive(Clone, Copy)]
 pub struct Colour {
     pub can: Capabilities,
     pub limits: Limits,

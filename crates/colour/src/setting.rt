@@ -4,7 +4,7 @@ ghost use Rattle.colour.specs.Setting.{mask, masked, factory};
 
 use crate::record::Capabilities;
 
-#[derive(Drop)]
+#[derive(Clone, Copy)]
 pub struct ColourSetting {
     // Single bytes first: fourteen bytes without a gap, and sixteen with a level.
     pub kind: u8,

@@ -7,7 +7,7 @@ use crate::setting::ColourSetting;
 use crate::tint::{ColorMode, Tint};
 
 // The staged colour taken away, and the record without it.
-#[derive(Drop)]
+#[derive(Clone, Copy)]
 pub struct Taken {
     pub setting: ColourSetting,
     pub colour: Colour,

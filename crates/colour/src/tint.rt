@@ -5,7 +5,7 @@ ghost use Rattle.colour.specs.Tint.{colour_type_byte, face, captured, unstaged, 
 use crate::limits::Limits;
 use crate::setting::ColourSetting;
 
-#[derive(Drop)]
+#[derive(Clone, Copy)]
 pub enum ColorMode {
     None,
     Cct,
@@ -13,7 +13,7 @@ pub enum ColorMode {
     Rgb,
 }
 
-#[derive(Drop)]
+#[derive(Clone, Copy)]
 pub struct Tint {
     pub mode: ColorMode,
     pub x: u16,

@@ -10,7 +10,7 @@ use crate::setting::ColourSetting;
 use crate::tint::ColorMode;
 
 // A number; or why there is none: no gear has the id, or this gear lacks what the id needs.
-#[derive(Drop)]
+#[derive(Clone, Copy)]
 pub enum ColourValue {
     Value(u16),
     Unknown,

@@ -1,4 +1,6 @@
 // What a host in C or Rust calls: session files on lent bytes, and answers as numbers. include/dali_gear.h says it for people.
+#![tactic(auto)]
+
 mod code;
 
 ghost use Rattle.std.specs.Prelude.{◌≡◌, length};

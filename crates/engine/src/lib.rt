@@ -1,5 +1,7 @@
 // Every call on a record, on the 512 bytes of a slot: the same answers, and the image of the same record, as the calls by value.
 // Each tests its slot first: 7 for one of another length, then 2 for bytes that are no image of a fit record.
+#![tactic(auto)]
+
 mod activation;
 pub mod address;
 pub mod colours;

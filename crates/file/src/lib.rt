@@ -1,4 +1,6 @@
 // The session file: counted sections of types, profile and steps. It is judged whole, before anything of it is used.
+#![tactic(auto)]
+
 ghost use Rattle.std.specs.Prelude.{◌≡◌, ◌+◌, ◌≤◌, length};
 ghost use Rattle.file.specs.File.{word, checked, well_formed, short_good, warmest_good, minimum_good, types_of, profile_of, steps_of};
 ghost use Rattle.file.specs.Profile.{padded, short_of, random_of, unit_from, profile_from, profile_in};
@@ -8,7 +10,7 @@ use colour::record::Capabilities;
 use gear::profile::{Profile, Short, Unit};
 
 // A well-formed file, or the offset of the lowest fault of any other.
-#[derive(Drop)]
+#[derive(Clone, Copy)]
 pub enum Verdict {
     Good,
     Bad(usize),

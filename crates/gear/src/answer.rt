@@ -8,7 +8,7 @@ use colour::capability::Capability;
 use colour::value::ColourValue;
 
 // Why a call was refused.
-#[derive(Drop)]
+#[derive(Clone, Copy)]
 pub enum Refusal {
     Profile,
     Unfit,
@@ -35,7 +35,7 @@ impl Refusal {
     }
 }
 
-#[derive(Drop)]
+#[derive(Clone, Copy)]
 pub enum Answer {
     Done,
     Value(u16),
@@ -45,7 +45,7 @@ pub enum Answer {
 }
 
 // The answer, and the record that follows.
-#[derive(Drop)]
+#[derive(Clone, Copy)]
 pub struct Outcome {
     pub answer: Answer,
     pub gear: Gear,

@@ -6,7 +6,7 @@ ghost use Rattle.gear.specs.Command.{level_command, config_command, command_of};
 use level::arc::ArcCommand;
 
 // Commands that store a setting.
-#[derive(Drop)]
+#[derive(Clone, Copy)]
 pub enum ConfigCommand {
     SetMaxLevel,
     SetMinLevel,
@@ -21,7 +21,7 @@ pub enum ConfigCommand {
     RemoveFromGroup(u8),
 }
 
-#[derive(Drop)]
+#[derive(Clone, Copy)]
 pub enum StandardCommand {
     Arc(ArcCommand),
     GoToScene(u8),

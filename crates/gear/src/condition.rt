@@ -2,13 +2,13 @@
 ghost use Rattle.std.specs.Prelude.{◌≡◌};
 ghost use Rattle.gear.specs.Condition.{fresh_condition, reset_condition};
 
-#[derive(Drop)]
+#[derive(Clone, Copy)]
 pub struct Lamp {
     pub failure: bool,
     pub starting: bool,
 }
 
-#[derive(Drop)]
+#[derive(Clone, Copy)]
 pub struct Faults {
     // Answers to drop, of a thousand.
     pub drop: u16,
@@ -18,7 +18,7 @@ pub struct Faults {
     pub holds: bool,
 }
 
-#[derive(Drop)]
+#[derive(Clone, Copy)]
 pub struct Condition {
     pub enabled: bool,
     pub lamp: Lamp,

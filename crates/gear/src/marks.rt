@@ -3,20 +3,20 @@ ghost use Rattle.std.specs.Prelude.{◌≡◌};
 ghost use Rattle.gear.specs.Marks.{fresh_marks, reset_marks, heard, asked, configured, identified, enabled, with_walk, with_pair, power_up_marks, walk_fit};
 
 // The walk through the type list: off, or at the next entry to tell.
-#[derive(Drop)]
+#[derive(Clone, Copy)]
 pub enum Walk {
     Off,
     At(u8),
 }
 
 // A frame that was heard once and waits for its second copy.
-#[derive(Drop)]
+#[derive(Clone, Copy)]
 pub enum Pair {
     Closed,
     Open(u16),
 }
 
-#[derive(Drop)]
+#[derive(Clone, Copy)]
 pub struct Marks {
     pub walk: Walk,
     pub pair: Pair,

@@ -5,14 +5,14 @@ ghost use Rattle.gear.specs.Profile.{is_type, floor, fixed, short_fit, unit_fit,
 use crate::types::{COLOUR, LED, SWITCHING, has_type};
 use colour::record::Capabilities;
 
-#[derive(Drop)]
+#[derive(Clone, Copy)]
 pub enum Short {
     Missing,
     Address(u8),
 }
 
 // What a profile fixes for good.
-#[derive(Drop)]
+#[derive(Clone, Copy)]
 pub struct Unit {
     pub short: Short,
     pub random: u32,
@@ -27,7 +27,7 @@ pub struct Unit {
     pub minimum: u8,
 }
 
-#[derive(Drop)]
+#[derive(Clone, Copy)]
 pub struct Profile {
     pub unit: Unit,
     pub can: Capabilities,

@@ -11,7 +11,7 @@ use bank::build::Banks;
 use colour::record::Colour;
 use level::levels::Levels;
 
-#[derive(Drop)]
+#[derive(Clone, Copy)]
 pub struct Gear {
     // What the profile says of the gear: no call changes it.
     pub unit: Unit,

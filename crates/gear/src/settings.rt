@@ -9,20 +9,20 @@ use colour::staging::take_staged_colour;
 use level::levels::Levels;
 
 // A level with its colour: for power-on, for system failure, and of a scene.
-#[derive(Drop)]
+#[derive(Clone, Copy)]
 pub struct LevelSetting {
     pub colour: ColourSetting,
     pub level: u8,
 }
 
-#[derive(Drop)]
+#[derive(Clone, Copy)]
 pub struct Fades {
     pub time: u8,
     pub rate: u8,
     pub extended: u8,
 }
 
-#[derive(Drop)]
+#[derive(Clone, Copy)]
 pub struct Settings {
     pub on: LevelSetting,
     pub failure: LevelSetting,
@@ -32,7 +32,7 @@ pub struct Settings {
 }
 
 // A setting with its new level, and the colour record that is left.
-#[derive(Drop)]
+#[derive(Clone, Copy)]
 pub struct StoredLevel {
     pub setting: LevelSetting,
     pub colour: Colour,

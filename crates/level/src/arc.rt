@@ -6,7 +6,7 @@ use crate::levels::Levels;
 use numbers::byte::{max, saturating_add, saturating_sub};
 
 // The commands of part 102 that change the arc power.
-#[derive(Drop)]
+#[derive(Clone, Copy)]
 pub enum ArcCommand {
     DirectArcPower(u8),
     Off,

@@ -4,7 +4,7 @@ ghost use Rattle.level.specs.Levels.{set_level, readjusts, readjust, set_min_lev
 
 use numbers::byte::{clamp, min};
 
-#[derive(Drop)]
+#[derive(Clone, Copy)]
 pub struct Levels {
     pub level: u8,
     pub last: u8,

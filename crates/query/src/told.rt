@@ -15,7 +15,7 @@ use gear::settings::Fades;
 use level::levels::Levels;
 
 // The parts of a record that queries tell of.
-#[derive(Drop)]
+#[derive(Clone, Copy)]
 pub struct Seen {
     pub unit: Unit,
     pub levels: Levels,

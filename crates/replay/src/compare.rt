@@ -7,7 +7,7 @@ use crate::perform::perform;
 use gear::answer::{Answer, Outcome};
 use gear::record::Gear;
 
-#[derive(Drop)]
+#[derive(Clone, Copy)]
 pub struct Progress {
     pub gear: Gear,
     pub compared: u64,

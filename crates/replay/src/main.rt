@@ -1,5 +1,7 @@
 // Reads a list of calls with the Rust's answers (oracle/FORMAT.md) from standard input, performs the calls on the record, and
 // says how many it compared, how many differ, and which is the first.
+#![tactic(auto)]
+
 mod build;
 mod compare;
 mod digest;

@@ -12,7 +12,7 @@ use gear::answer::Answer;
 use gear::record::Gear;
 
 // What the step answers; the offset of a malformed file, which is refusal 5.
-#[derive(Drop)]
+#[derive(Clone, Copy)]
 pub enum Asked {
     Told(Answer),
     Malformed(usize),

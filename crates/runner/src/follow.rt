@@ -25,7 +25,7 @@ use query::told::{Seen, query_answer};
 use step::{pair, temperature};
 
 // The record that the steps leave, where their lines end, and what the last of them answered.
-#[derive(Drop)]
+#[derive(Clone, Copy)]
 pub(crate) struct Finished {
     pub gear: Gear,
     pub at: usize,

@@ -1,4 +1,6 @@
 // The session file and its runner: the file's three sections as parts of the lent bytes, and the lines that a run writes.
+#![tactic(auto)]
+
 pub mod ask;
 mod follow;
 mod line;

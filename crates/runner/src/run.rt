@@ -11,7 +11,7 @@ use file::{Verdict, check, profile_of, steps};
 use gear::record::Gear;
 
 // The lines with so many bytes; the offset of a malformed file, which is refusal 5; the bytes that a buffer wants which is too short.
-#[derive(Drop)]
+#[derive(Clone, Copy)]
 pub enum Ran {
     Lines(usize),
     Malformed(usize),

@@ -1,4 +1,6 @@
 // Reads a session file from standard input and writes the lines of its run. What the lines are is the library's promise.
+#![tactic(auto)]
+
 use libc::{STDIN_FILENO, STDOUT_FILENO};
 use runner::run::{Ran, report};
 

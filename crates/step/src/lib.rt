@@ -1,4 +1,6 @@
 // One step of a session: four bytes, kind, a, b and c, on a record.
+#![tactic(auto)]
+
 ghost use Rattle.std.specs.Prelude.{◌≡◌};
 ghost use Rattle.gear.specs.Answer.{refused};
 ghost use Rattle.gear.specs.declared.answer.Refusal.TheVariants.{Byte};
