@@ -53,8 +53,8 @@ outcome_vals r = vcons (answer_val r.answer) (vcons (gear_val r.gear) vnil)
 abbrev outcome_fields : Tys
 outcome_fields = tcons R'.mir (tcons G'.mir tnil)
 
-answer_at_lem : field_of O'.mir 0 ≡ some_at (R'.mir, 0)
-answer_at_lem = refl
+answer_at : field_of O'.mir 0 ≡ some_at (R'.mir, 0)
+answer_at = refl
 
 gear_at : field_of O'.mir 1 ≡ some_at (G'.mir, 4)
 gear_at = refl
@@ -149,7 +149,7 @@ module _ {M : Type 1} {𝓤 : Ura M} {𝓛 : Logic 𝓤} {K : Type 0} {C : Calls
       rewrite t 6 (λ (u : Val). ‵ (fat full_share O'.mir l-out zero u)) (ap only (LL.tells O.the_type O'.the_laws r (v ∷ []) is')) refl $
       assigns t (of_opd t (load t (from_at t at_out (fld t {τ = G'.mir} {d = 4} gear_at (stop t))) (look_in t 6 (sub t {τs = outcome_fields} {vs = outcome_vals r} 1 {τ = G'.mir} {d = 4} gear_at (whole t)))))
       (from t (hop t (look t 4 refl) (stop t))) (store_raw t 0 refl (gear_typed 𝓛 r.gear (gear_is r (v ∷ []) is'))) $
-      assigns t (of_opd t (load t (from_at t at_out (fld t {τ = R'.mir} {d = 0} answer_at_lem (stop t))) (look_in t 6 (sub t {τs = outcome_fields} {vs = outcome_vals r} 0 {τ = R'.mir} {d = 0} answer_at_lem (whole t)))))
+      assigns t (of_opd t (load t (from_at t at_out (fld t {τ = R'.mir} {d = 0} answer_at (stop t))) (look_in t 6 (sub t {τs = outcome_fields} {vs = outcome_vals r} 0 {τ = R'.mir} {d = 0} answer_at (whole t)))))
       (from t (stop t)) (init t 7 refl (answer_typed 𝓛 r.answer (answer_is r (v ∷ []) is'))) $
       owned t G.the_row (Is G.the_row) (LL.makes G.the_type G'.the_plain 𝓛) r.gear (gear_val r.gear ∷ []) (gear_is r (v ∷ []) is') $ move t (1 ∷ 0 ∷ []) $ closes t tt G.the_row r.gear (gear_val r.gear ∷ []) b o $
       -- [obs; the borrow; the token; _1; arg; out; _0; the rest]

@@ -40,15 +40,15 @@ module _ (g : Gear) (e : fitb g ≡ true) (several : 2 ≤ g.unit.count) where
       reply_fit g 153 e ∙
       simp (ne_eqb g.unit.count 0 (λ z. omega arith), ne_eqb g.unit.count 1 (λ z. omega arith))
 
-  walk_fit : (n : ℕ) → n ≤ g.unit.count → fitb (walking g (At n)) ≡ true
-  walk_fit n h =
+  walk_fit_lem : (n : ℕ) → n ≤ g.unit.count → fitb (walking g (At n)) ≡ true
+  walk_fit_lem n h =
       let f = facts g e in
       let m = count_most 16 g.unit f.unit in
       fit (walking_kept g (At n) (at_most n (omega arith)) f)
 
   step : (n : ℕ) → n ≤ g.unit.count → gear_query_reply (walking g (At n)) 167 ≡ next_at (walking g (At n)) n
   unfolding query next_device_type next
-  step n h = reply_fit (walking g (At n)) 167 (walk_fit n h)
+  step n h = reply_fit (walking g (At n)) 167 (walk_fit_lem n h)
 
   more : (n : ℕ) → n < g.unit.count → next_at (walking g (At n)) n ≡ record { answer = Value (type_at g.unit.types n); gear = walking g (At (n + 1)) }
   unfolding next_at

@@ -35,7 +35,7 @@ pub(crate) fn type_answer(unit: Unit) -> Answer
     Answer::Value(MULTIPLE)
 }
 
-fn answer_at_lem(unit: Unit, at: u8) -> Answer
+fn answer_at(unit: Unit, at: u8) -> Answer
     ensures { result ≡ answer_at unit at }
 {
     if unit.count <= at {
@@ -51,6 +51,6 @@ pub(crate) fn next_type_answer(unit: Unit, walk: Walk) -> Answer
 {
     match walk {
         Walk::Off => Answer::Nothing,
-        Walk::At(at) => answer_at_lem(unit, at),
+        Walk::At(at) => answer_at(unit, at),
     }
 }

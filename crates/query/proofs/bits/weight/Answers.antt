@@ -1,0 +1,11 @@
+-- `bits::weight` meets its contract: at each return the tests that led there decide the cases of `weight`.
+use Rattle.query.specs.Bits.{weight}
+use Rattle.query.proofs.bits.weight.Goals as goal
+
+pub returns-then-set : goal.returns-then-set
+unfolding weight
+returns-then-set c = simp c.if-set.true
+
+pub returns : goal.returns
+unfolding weight
+returns c = simp c.if-set.false

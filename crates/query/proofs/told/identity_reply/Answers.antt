@@ -1,0 +1,28 @@
+-- `told::identity_reply` meets its contract: at each return the callees give the parts.
+use borrow.Author.Tests.{ne_eqb}
+use Rattle.query.specs.Reply.{identity_reply}
+use Rattle.query.proofs.told.identity_reply.Goals as goal
+
+pub returns-in-0 : goal.returns-in-0
+unfolding identity_reply
+returns-in-0 c = simp (c.value.ensures, ← c.eight.ensures, c.in-0.is)
+
+pub returns-in-1 : goal.returns-in-1
+unfolding identity_reply
+returns-in-1 c = simp (c.value-in-1.ensures, ← c.eight-in-1.ensures, c.in-1.is)
+
+pub returns-in-2 : goal.returns-in-2
+unfolding identity_reply
+returns-in-2 c = simp c.in-2.is
+
+pub returns-in-3 : goal.returns-in-3
+unfolding identity_reply
+returns-in-3 c = simp c.in-3.is
+
+pub returns-in-4 : goal.returns-in-4
+unfolding identity_reply
+returns-in-4 c = simp c.in-4.is
+
+pub returns-in_default : goal.returns-in_default
+unfolding identity_reply
+returns-in_default c = simp (ne_eqb _ _ c.in_default.in_default-own.rest.1, ne_eqb _ _ c.in_default.in_default-own.rest.0.1, ne_eqb _ _ c.in_default.in_default-own.rest.0.0.1, ne_eqb _ _ c.in_default.in_default-own.rest.0.0.0.1, ne_eqb _ _ c.in_default.in_default-own.rest.0.0.0.0.1)

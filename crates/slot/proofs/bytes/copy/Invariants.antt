@@ -1,0 +1,16 @@
+-- `bytes::copy` meets its contract: the bytes passed are those of the part.
+use Prim.Native.Nat.{◌≤◌, ◌-◌, ◌+◌, suc}
+use mathlib.Core.Path.{◌≡◌, refl, sym, ◌∙◌}
+use lib.ListN.{length, length-set, take}
+use lib.Seq.{take_all, take-suc-set}
+use native.Mathlib.Numerals.{add-one}
+use native.Mathlib.Omega.{arith}
+use Rattle.slot.proofs.Lists.{bytes_more}
+use Rattle.slot.specs.Record.{bytes_from}
+use Rattle.slot.proofs.bytes.copy.Given as goal
+
+abbrev pub invariant-loop-i : goal.invariant-loop-i
+invariant-loop-i l = (length l.out ≡ length l.initial.out) × (l.i ≤ length l.out) × (take l.i l.out ≡ bytes_from l.i l.place l.part)
+
+abbrev pub decreases-loop-i : goal.decreases-loop-i
+decreases-loop-i l = length l.out - l.i

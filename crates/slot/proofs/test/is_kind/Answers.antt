@@ -1,0 +1,15 @@
+-- `test::is_kind` meets its contract: the tests that led to each return decide.
+use borrow.Author.Tests.{eq-eqb, ne_eqb}
+use Rattle.slot.proofs.test.is_kind.Goals as goal
+
+pub returns-then-kind-eq-XY : goal.returns-then-kind-eq-XY
+returns-then-kind-eq-XY c = rw (eq-eqb _ _ c.if-kind-eq-XY.true)
+
+pub returns-then-kind-eq-TC : goal.returns-then-kind-eq-TC
+returns-then-kind-eq-TC c = rw (ne_eqb _ _ c.if-kind-eq-XY.false, eq-eqb _ _ c.if-kind-eq-TC.true)
+
+pub returns-then-kind-eq-RGBWAF : goal.returns-then-kind-eq-RGBWAF
+returns-then-kind-eq-RGBWAF c = rw (ne_eqb _ _ c.if-kind-eq-XY.false, ne_eqb _ _ c.if-kind-eq-TC.false, eq-eqb _ _ c.if-kind-eq-RGBWAF.true)
+
+pub returns : goal.returns
+returns c = rw (ne_eqb _ _ c.if-kind-eq-XY.false, ne_eqb _ _ c.if-kind-eq-TC.false, ne_eqb _ _ c.if-kind-eq-RGBWAF.false)
