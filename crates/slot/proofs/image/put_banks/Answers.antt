@@ -9,12 +9,6 @@ use Rattle.slot.specs.Image.{put_bytes}
 use Rattle.std.proofs.Common.{rules}
 use Rattle.slot.proofs.image.put_banks.Goals as goal
 
-pub put_bytes-requires : goal.put_bytes-requires
-put_bytes-requires c κs = omega (arith, slice-aggregate-put-bytes c)
-
-pub put_bytes-requires-2 : goal.put_bytes-requires-2
-put_bytes-requires-2 c κs = simp (length-take, length-drop) (omega (arith, slice-aggregate-put-bytes-2 c))
-
 pub returns : goal.returns
 returns c =
     let a = c.args in

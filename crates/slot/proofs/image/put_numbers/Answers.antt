@@ -3,7 +3,7 @@ use mathlib.Core.Path.{◌∙◌}
 use Rattle.slot.proofs.image.put_numbers.Goals as goal
 
 pub put_bytes-requires : goal.put_bytes-requires
-put_bytes-requires c κs = c.requires
+put_bytes-requires c = c.requires
 
 pub returns : goal.returns
 returns c = c.put_bytes.ensures ∙ rw c.open_frame-frame.ensures

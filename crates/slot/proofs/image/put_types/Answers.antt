@@ -13,7 +13,7 @@ slice_bounds-put_bytes-end-then-many-lt16 c =
     sym (length-take-le a.count a.types (let many : length a.types ≡ 16 = search rules in omega arith))
 
 pub put_bytes-requires-then-many-lt16 : goal.put_bytes-requires-then-many-lt16
-put_bytes-requires-then-many-lt16 c κs = simp length-take (omega arith)
+put_bytes-requires-then-many-lt16 c = simp length-take (omega arith)
 
 pub returns-then-many-lt16 : goal.returns-then-many-lt16
 returns-then-many-lt16 c =

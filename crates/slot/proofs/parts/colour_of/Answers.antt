@@ -6,7 +6,7 @@ returns c =
     λ i.
     record {
       can = record { tc = c.flag.ensures i; xy = c.flag-2.ensures i; channels = c.byte.ensures i };
-      limits = c.Limits-of.ensures i;
+      limits = c.limits_of.ensures i;
       active = c.tint_at.ensures i;
       outside = c.flag-3.ensures i;
       pending = c.tint_at-2.ensures i;

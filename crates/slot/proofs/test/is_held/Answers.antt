@@ -4,7 +4,7 @@ use Rattle.slot.specs.Held.{heldb}
 use Rattle.slot.proofs.test.is_held.Goals as goal
 
 pub is_fit-requires : goal.is_fit-requires
-is_fit-requires c κs = sym c.is_low_enough.ensures ∙ c.if-is_low_enough.true
+is_fit-requires c = sym c.is_low_enough.ensures ∙ c.if-is_low_enough.true
 
 pub returns-then-is_canonical : goal.returns-then-is_canonical
 unfolding heldb
