@@ -57,9 +57,9 @@ slot kind byte h e = rw e (by_cases (eqb kind 0) (λ t. rw t refl) (λ t. rw t (
 
 -- what the slot of a low half holds, and what it is to store there
 module _ {s low : ℕ} (is : s ≡ low) (h : low < 16) where
-  pub scene_at : (xs : List LevelSetting) → get_or xs low nowhere ≡ scene_at xs s
+  pub scene_at_lem : (xs : List LevelSetting) → get_or xs low nowhere ≡ scene_at xs s
   unfolding scene_at
-  scene_at xs = rw (is, lt-leb 16 low h) refl
+  scene_at_lem xs = rw (is, lt-leb 16 low h) refl
 
   pub stored_at : {A : Type 0} (xs : List A) (v : A) → set xs low v ≡ stored xs s v
   unfolding stored

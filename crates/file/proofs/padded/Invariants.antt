@@ -1,0 +1,16 @@
+-- `padded` meets its contract: the loop has stored i codes, and zeros are left behind them.
+use Prim.Native.Nat.{ℕ, suc, ◌+◌, ◌-◌, ◌≤◌, ◌<◌}
+use mathlib.Core.Path.{◌≡◌, refl, sym, ap, ◌∙◌}
+use mathlib.Core.List.{List, ◌++◌}
+use lib.ListN.{length, take, get_or, set, replicate, length-set}
+use lib.Seq.{take-suc, take-length, length-take-le, append_snoc, set_at}
+use native.Mathlib.Numerals.{add-one}
+use native.Mathlib.Omega.{arith}
+use Rattle.file.specs.Profile.{padded}
+use Rattle.file.proofs.padded.Given as goal
+
+abbrev pub invariant-loop-i : goal.invariant-loop-i
+invariant-loop-i l = (l.i ≤ length l.codes) × (length l.types ≡ 16) × (l.types ≡ take l.i l.codes ++ replicate (16 - l.i) 0)
+
+abbrev pub decreases-loop-i : goal.decreases-loop-i
+decreases-loop-i l = length l.codes - l.i
