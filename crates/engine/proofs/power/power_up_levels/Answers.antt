@@ -1,0 +1,18 @@
+-- `power::power_up_levels` meets its contract: the levels and the stored level are the record's.
+use mathlib.Core.Path.{◌≡◌}
+use Rattle.level.specs.Levels.{power_up}
+use Rattle.slot.proofs.Read.{part}
+use Rattle.slot.specs.Image.{image_of}
+use Rattle.slot.specs.Record.{gear_of}
+use Rattle.engine.proofs.power.power_up_levels.Goals as goal
+
+pub returns : goal.returns
+unfolding image_of gear_of
+returns c =
+    let at = c in
+    λ g h.
+    let b = at.args.slot.now in
+    let next : at.power_up-levels.result ≡ power_up g.levels g.settings.on.level =
+    rw (at.power_up-levels.ensures, at.levels_of.ensures, at.byte.ensures, part b g h (λ x. x.levels), h.0)
+    in
+    rw (← next) (c.put_levels.ensures g h)

@@ -1,0 +1,6 @@
+-- `reply::answer` meets its contract: the parts that are read answer it, and the walk and the report that are stored follow it.
+use Rattle.engine.proofs.Querying.{answers, leaves}
+use Rattle.engine.proofs.reply.answer.Goals as goal
+
+pub returns : goal.returns
+returns c = (leaves _ _ _ _ _ _ c.seen-told.ensures c.walked-marks.ensures c.put_walk.ensures c.report.ensures, answers _ _ _ _ c.seen-told.ensures c.query_answer.ensures)

@@ -1,0 +1,29 @@
+-- `write::recall_scene` meets its contract: the entry is read at its place.
+use mathlib.Core.Path.{◌≡◌, ap, sym, ◌∙◌}
+use mathlib.Core.List.{List}
+use borrow.Author.Tests.{le-leb}
+use native.Mathlib.Omega.{arith}
+use Rattle.colour.specs.Activation.{recall}
+use Rattle.engine.proofs.Places.{scene_place}
+use Rattle.gear.specs.declared.settings.LevelSetting.{LevelSetting}
+use Rattle.gear.specs.Scene.{scene_at}
+use Rattle.gear.specs.Write.{recall_scene, recalled_levels, scene}
+use Rattle.slot.proofs.Read.{part}
+use Rattle.slot.specs.Record.{gear_of}
+use Rattle.engine.proofs.write.recall_scene.Goals as goal
+
+pub returns-then-scene-ge16 : goal.returns-then-scene-ge16
+unfolding recall_scene scene_at recalled_levels recall
+returns-then-scene-ge16 c = λ g h. rw (le-leb _ _ c.if-scene-ge16.true) (c.ask.ensures g h)
+
+pub returns : goal.returns
+unfolding recall_scene gear_of
+returns c =
+    λ g h.
+    let b = c.args.slot.now in
+    let s = c.args.scene in
+    let levels : c.levels_of-levels.result ≡ g.levels = c.levels_of-levels.ensures ∙ part b g h (λ x. x.levels) in
+    let entry : c.setting_at-entry.result ≡ scene g s =
+    c.setting_at-entry.ensures ∙ sym (scene_place s b (omega (arith, c.if-scene-ge16.false))) ∙ ap (λ (x : List LevelSetting). scene_at x s) (part b g h (λ x. x.scenes))
+    in
+    rw (c.recalled_levels.ensures, levels, entry) at (c.recall_colour.ensures _ (c.ask-2.ensures _ (c.put_levels.ensures g h)))
