@@ -4,7 +4,7 @@ ghost use Rattle.calls.specs.Memory.{memory_location_call, write_memory_call, ad
 
 use bank::memory::{
     advances_dtr0_past as advances, implements_bank as implements, memory_location as location,
-    write_memory_location as write,
+    write_memory_location as write_location,
 };
 use bank::setters::{
     clear_identification_number as clear_number, set_bank0_last_offset as set_last,
@@ -31,7 +31,7 @@ pub fn write_memory_location(gear: Gear, bank: u8, offset: u8, value: u8) -> Out
 {
     if gear.fit() {
         let banks = gear.banks;
-        let written = write(banks, gear.condition.faults.unstored, bank, offset, value);
+        let written = write_location(banks, gear.condition.faults.unstored, bank, offset, value);
         let found = written.answer;
         let rest = written.banks;
         let mut next = gear;

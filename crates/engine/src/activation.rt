@@ -54,13 +54,20 @@ fn activate_channels(slot: &mut [u8])
     requires { length slot.old ≡ 512 }
     ensures { Activates Rgb slot.old slot.new }
 {
-    slot[89] = slot[103];
-    slot[90] = slot[104];
-    slot[91] = slot[105];
-    slot[92] = slot[106];
-    slot[93] = slot[107];
-    slot[94] = slot[108];
-    slot[95] = chosen(slot[95], slot[109]);
+    let first = slot[103];
+    let second = slot[104];
+    let third = slot[105];
+    let fourth = slot[106];
+    let fifth = slot[107];
+    let sixth = slot[108];
+    let control = chosen(slot[95], slot[109]);
+    slot[89] = first;
+    slot[90] = second;
+    slot[91] = third;
+    slot[92] = fourth;
+    slot[93] = fifth;
+    slot[94] = sixth;
+    slot[95] = control;
     slot[96] = ColourSetting::RGBWAF;
     slot[109] = ColourSetting::CONTROL_MASK;
     slot[110] = ColourSetting::MASK;

@@ -26,6 +26,6 @@ unfolding image_of gear_of activate activated strays
 returns c =
     λ g h m.
     let b = c.args.slot.now in
-    let limits : c.Limits-of.result ≡ g.colour.limits = c.Limits-of.ensures ∙ part b g h (λ x. x.colour.limits) in
+    let limits : c.limits_of-limits.result ≡ g.colour.limits = c.limits_of-limits.ensures ∙ part b g h (λ x. x.colour.limits) in
     let staged : c.word-staged.result ≡ g.colour.pending.tc = c.word-staged.ensures ∙ staged_tc b g h in
     rw (c.flag_byte.ensures, c.unlinked.ensures, c.clamp-tc.ensures, c.effective_coolest.ensures, c.effective_warmest.ensures, limits, staged, h.0, m) (refl, h.1)

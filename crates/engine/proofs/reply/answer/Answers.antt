@@ -3,4 +3,4 @@ use Rattle.engine.proofs.Querying.{answers, leaves}
 use Rattle.engine.proofs.reply.answer.Goals as goal
 
 pub returns : goal.returns
-returns c = (leaves _ _ _ _ _ _ c.seen-told.ensures c.walked-marks.ensures c.put_walk.ensures c.report.ensures, answers _ _ _ _ c.seen-told.ensures c.query_answer.ensures)
+returns c = record { does = leaves _ _ _ _ _ _ c.seen-told.ensures c.walked-marks.ensures c.put_walk.ensures c.report.ensures; tells = answers _ _ _ _ c.seen-told.ensures c.query_answer.ensures }

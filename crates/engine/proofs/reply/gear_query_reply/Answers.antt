@@ -12,7 +12,7 @@ unfolding gear_query_reply
 returns-then-is_held c =
     let b = c.args.slot.now in
     served b c.if-slot-ne-SIZE.false c.slice_known-1.given (sym c.is_held.ensures ∙ c.if-is_held.true) _ _ _
-    (by_work _ b _ _ c.answer.ensures.0 c.answer.ensures.1)
+    (by_work _ b _ _ c.answer.ensures.does c.answer.ensures.tells)
 
 pub returns : goal.returns
 returns c = not_held _ _ c.if-slot-ne-SIZE.false (sym c.is_held.ensures ∙ c.if-is_held.false)

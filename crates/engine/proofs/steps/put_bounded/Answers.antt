@@ -6,10 +6,10 @@ use Rattle.slot.specs.Image.{image_of}
 use Rattle.engine.proofs.steps.put_bounded.Goals as goal
 
 pub bounds-slot-87 : goal.bounds-slot-87
-bounds-slot-87 c = simp length-set (omega (arith, c.requires, c.put_limits.auto.0))
+bounds-slot-87 c = simp length-set (omega (arith, c.requires, c.put_limits.auto.slot))
 
 pub bounds-slot-88 : goal.bounds-slot-88
-bounds-slot-88 c = simp length-set (omega (arith, c.requires, c.put_limits.auto.0))
+bounds-slot-88 c = simp length-set (omega (arith, c.requires, c.put_limits.auto.slot))
 
 pub returns : goal.returns
 unfolding image_of

@@ -22,6 +22,6 @@ unfolding image_of gear_of tc_step
 returns c =
     λ g h.
     let b = c.args.slot.now in
-    let limits : c.Limits-of.result ≡ g.colour.limits = c.Limits-of.ensures ∙ part b g h (λ x. x.colour.limits) in
+    let limits : c.limits_of.result ≡ g.colour.limits = c.limits_of.ensures ∙ part b g h (λ x. x.colour.limits) in
     let tc : c.word.result ≡ g.colour.active.tc = c.word.ensures ∙ active_tc b g h in
     rw (active_cct b g h ∙ eq-eqb _ _ c.if-slot-ne-TC.false, c.stepped_tc-tc.ensures, limits, tc, h.0) (refl, h.1)

@@ -12,9 +12,9 @@ unfolding gear_of
 returns c =
     λ g h.
     let b = c.args.slot.now in
-    let limits : c.Limits-of.result ≡ g.colour.limits = c.Limits-of.ensures ∙ part b g h (λ x. x.colour.limits) in
+    let limits : c.limits_of.result ≡ g.colour.limits = c.limits_of.ensures ∙ part b g h (λ x. x.colour.limits) in
     let tc : c.word.result ≡ g.colour.active.tc = c.word.ensures ∙ active_tc b g h in
-    let mode : c.Mode-of.result ≡ g.colour.active.mode = c.Mode-of.ensures ∙ sym (active_mode b g h) in
+    let mode : c.mode_of.result ≡ g.colour.active.mode = c.mode_of.ensures ∙ sym (active_mode b g h) in
     let outside : c.flag.result ≡ g.colour.outside = c.flag.ensures ∙ part b g h (λ x. x.colour.outside) in
     let stored = c.store.ensures ∙ (λ i. store_bounded (record { limits = limits i; tc = tc i; mode = mode i; outside = outside i }) c.args.value c.args.selector) in
     same_colour _ g _ _ (ap (put_back g.colour) stored ∙ store_put_back g.colour c.args.value c.args.selector) (c.put_bounded.ensures g h)
