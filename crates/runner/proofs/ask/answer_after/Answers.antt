@@ -29,7 +29,7 @@ follow-finished-requires c =
 pub follow-after-requires : goal.follow-after-requires
 follow-after-requires c =
     let ran = c in
-    (ran.follow-finished.ensures.1.1.1, omega arith, omega arith, λ wanted. no_false wanted)
+    (ran.follow-finished.ensures.fit, omega arith, omega arith, λ wanted. no_false wanted)
 
 pub returns : goal.returns
 unfolding answer_after state_after performed
@@ -41,5 +41,5 @@ returns c =
     let a = start.args in
     let first : made.new-made.result.gear ≡ first_of s =
     ap (λ (o : Outcome). o.gear) (made.new-made.ensures ∙ ap new_gear made.profile_of.ensures) in
-    let last : ran.follow-finished.result.gear ≡ last_of s = rw (← ran.steps-steps.ensures, ← first) ran.follow-finished.ensures.0 in
-    c.follow-after.ensures.1.1.0 ∙ ap (λ (g : Gear). (step g a.kind a.a a.b a.c).answer) last
+    let last : ran.follow-finished.result.gear ≡ last_of s = rw (← ran.steps-steps.ensures, ← first) ran.follow-finished.ensures.state in
+    c.follow-after.ensures.answer ∙ ap (λ (g : Gear). (step g a.kind a.a a.b a.c).answer) last

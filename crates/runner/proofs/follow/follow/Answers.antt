@@ -25,7 +25,7 @@ use Rattle.gear.specs.declared.answer.Outcome.{Outcome}
 use Rattle.gear.specs.declared.command.StandardCommand.TheVariants.{Config}
 use Rattle.colour.specs.Activation.{recall}
 use Rattle.colour.specs.declared.staging.Taken.{Taken}
-use Rattle.step.proofs.Slots.{slot, scene_at, stored_at}
+use Rattle.step.proofs.Slots.{slot, scene_at_lem, stored_at}
 use Rattle.gear.specs.declared.marks.Marks.{Marks}
 use Rattle.gear.specs.declared.record.Gear.{Gear}
 use Rattle.gear.specs.Write.{arc_write, config_write, enable_write, identify, recall_scene, recalled_levels, remove_scene, set_fades, set_power_on_level, set_scene, set_system_failure_level, write}
@@ -43,12 +43,9 @@ use Rattle.numbers.specs.Numbers.{pick}
 use Rattle.runner.specs.Line.{Wrote, line_text}
 use Rattle.runner.specs.Run.{answer_after, performed, state_after, text_after}
 use Rattle.runner.proofs.follow.follow.Goals as goal
+use Rattle.runner.proofs.follow.follow.Goals.{Joined-kind, in-2+then-reports, in-2+else-reports, in-3, in-4, in-5, in-6, in-7, in-8, in-9, in-10, in-11, in-12, in-0+in-Arc, in-0+in-GoToScene, in-0+in-Config+in-SetMaxLevel, in-0+in-Config+in-SetMinLevel, in-0+in-Config+in-SetSystemFailureLevel, in-0+in-Config+in-SetPowerOnLevel, in-0+in-Config+in-SetFadeTime, in-0+in-Config+in-SetFadeRate, in-0+in-Config+in-SetExtendedFadeTime, in-0+in-Config+in-SetScene, in-0+in-Config+in-RemoveScene, in-0+in-Config+in-AddToGroup, in-0+in-Config+in-RemoveFromGroup, in-0+in-Reset, in-0+in-IdentifyDevice, in-0+in-EnableWriteMemory, in-0+in-Unknown, in_default}
 
 -- ## Where the arms meet
-
--- the step of a turn
-abbrev Turn : Type 0
-Turn = tie.At-match-branch invariant-loop decreases-loop
 
 -- what a turn's step gives: the state and the answer are those of an outcome that it equals
 meets :
@@ -66,160 +63,144 @@ scene_put is h g {x' = x'} e p q = rw (e, p, q, stored_at is h g.scenes x') refl
 
 -- what a query tells, from the entry of the scene that it names
 telling : (g : Gear) (a : ℕ) → a % 16 < 16 → told (seen_with g (get_or g.scenes (a % 16) nowhere).level) a ≡ (query g a).answer
-telling g a low = ap (λ (x : LevelSetting). told (seen_with g x.level) a) (scene_at refl low g.scenes) ∙ sym (query_tells g a)
+telling g a low = ap (λ (x : LevelSetting). told (seen_with g x.level) a) (scene_at_lem refl low g.scenes) ∙ sym (query_tells g a)
 
 -- a kind that is none of those listed
 past : {k n : ℕ} → k ≤ n → (n ≡ k → ⊥) → suc k ≤ n
 past h other = omega arith
 
 met :
-    (c : Turn) →
-    let at = c.before.before.before.before.before.before in
-    let steps = at.before.before.before.args.steps.now in
-    (c.match.state ≡ (performed steps at.loop.state at.loop.k).gear) ×
-    (c.match.answer ≡ (performed steps at.loop.state at.loop.k).answer)
+    (c : Joined-kind) →
+    (c.match-kind.state ≡ (performed c.args.steps.now c.loop-k.state c.loop-k.k).gear) ×
+    (c.match-kind.answer ≡ (performed c.args.steps.now c.loop-k.state c.loop-k.k).answer)
 unfolding performed write arc_write recall_scene config_write identify enable_write set_scene remove_scene set_power_on_level set_system_failure_level store_level_setting with_features power_cycle
 met c =
-    let at = c.before.before.before.before.before.before in
-    let g = at.loop.state in
-    let f = at.loop.invariant.2 in
-    let steps = at.before.before.before.args.steps.now in
-    let i = at.loop.k * 4 in
+    let g = c.loop-k.state in
+    let f = c.loop-k.invariant.2 in
+    let steps = c.args.steps.now in
+    let i = c.loop-k.k * 4 in
     let a = get_or steps (i + 1) 0 in
     let b = get_or steps (i + 2) 0 in
     let d = get_or steps (i + 3) 0 in
     let low : a % 16 < 16 = omega arith in
-    let a_byte : a < 256 = omega (arith, c.before.before.before.shared-slice-known3.given (i + 1)) in
-    ⊎_elim
-    (λ w.
-    let scene = ap (λ (x : LevelSetting). shown g.colour.active g.settings.on.colour g.settings.failure.colour x.colour a) (scene_at refl low g.scenes) in
-    let report = ap (report_from g.colour) (w.13.ensures ∙ scene) ∙ report_told g a (sym w.7.ensures ∙ w.8.taken) in
-    meets (at_query g f a b d w.0.keys1)
-    (w.16 ∙ light g refl w.5.ensures (w.15.ensures ∙ report) ∙ sym (query_walks g a)) (w.17 ∙ w.2.ensures ∙ telling g a low))
-    (⊎_elim
-    (λ w.
-    meets (at_query g f a b d w.0.keys1)
-    (w.9 ∙ light g refl w.5.ensures (report_left g a (sym w.7.ensures ∙ w.8.left)) ∙ sym (query_walks g a))
-    (w.10 ∙ w.2.ensures ∙ telling g a low))
-    (⊎_elim (λ w. meets (at_read g f a b d w.0.keys2) w.4 (w.5 ∙ w.3.ensures ∙ ap location_answer w.2.ensures))
-    (⊎_elim
-    (λ w.
-    meets (at_stored g f a b d w.0.keys3) (w.5 ∙ ap (λ (x : Written). with_banks g x.banks) w.2.ensures)
-    (w.6 ∙ w.4.ensures ∙ ap (λ (x : Written). location_answer x.answer) w.2.ensures))
-    (⊎_elim (λ w. meets (at_value g f a b d w.0.keys4) w.4 (w.5 ∙ w.3.ensures ∙ ap value_answer w.2.ensures))
-    (⊎_elim
-    (λ w.
-    meets (at_limit g f a b d w.0.keys5)
-    (w.4 ∙ ap (with_colour g) (w.3.ensures ∙ ap (λ (v : ℕ). store_tc_limit g.colour v a) w.2.ensures)) w.5)
-    (⊎_elim (λ w. meets (at_tc_step g f a b d w.0.keys6) (w.3 ∙ ap (with_colour g) w.2.ensures) w.4)
-    (⊎_elim
-    (λ w.
-    meets (at_stage g f a b d w.0.keys7)
-    (w.5 ∙
-    ap (with_colour g)
-    (w.4.ensures ∙ ap (load_temporaries_from g.colour) (w.3.ensures ∙ ap temperature w.2.ensures))) w.6)
-    (⊎_elim (λ w. meets (at_activate g f a b d w.0.keys8) (w.3 ∙ ap (with_colour g) w.2.ensures) w.4)
-    (⊎_elim
-    (λ w.
-    meets (at_power_cycle g f a b d w.0.keys9) (w.7 ∙ light g w.2.ensures w.4.ensures w.6.ensures) w.8)
-    (⊎_elim (λ w. meets (at_copy_report g f a b d w.0.keys10) (w.3 ∙ ap (with_colour g) w.2.ensures) w.4)
-    (⊎_elim (λ w. meets (at_features g f a b d w.0.keys11) w.2 w.3)
-    (⊎_elim
-    (λ w.
-    meets (at_write g f a b d w.1.taken w.2.ensures w.4.given.1)
-    (w.13 ∙ light g w.7.ensures (w.10.ensures ∙ ap (asked g.marks) w.9.ensures) w.12.ensures) w.14)
-    (⊎_elim
-    (λ w.
-    let is = slot _ a a_byte (sym w.4.given.1 ∙ w.2.ensures) in
-    meets (at_write g f a b d w.1.taken w.2.ensures w.4.given.1)
-    (w.12 ∙
-    light g (w.7.ensures ∙ ap (λ (x : LevelSetting). recalled_levels g.levels x.level) (scene_at is low g.scenes)) w.9.ensures
-    (w.11.ensures ∙ ap (λ (x : LevelSetting). recall g.colour x.colour) (scene_at is low g.scenes))) w.13)
-    (⊎_elim
-    (λ w.
-    meets (at_write g f a b d w.1.taken w.2.ensures (w.4.given.1 ∙ ap Config w.9.given.1))
-    (w.12 ∙ light g w.11.ensures w.7.ensures refl) w.13)
-    (⊎_elim
-    (λ w.
-    meets (at_write g f a b d w.1.taken w.2.ensures (w.4.given.1 ∙ ap Config w.9.given.1))
-    (w.13 ∙ light g w.12.ensures w.7.ensures refl) w.14)
-    (⊎_elim
-    (λ w.
-    meets (at_write g f a b d w.1.taken w.2.ensures (w.4.given.1 ∙ ap Config w.9.given.1))
-    (w.16 ∙
-    ap₂ (λ (m : Marks) (t : Taken). with_settings (with_marks g m) (with_failure g.settings (level_setting b t.setting)) t.colour)
-    w.7.ensures w.12.ensures) w.17)
-    (⊎_elim
-    (λ w.
-    meets (at_write g f a b d w.1.taken w.2.ensures (w.4.given.1 ∙ ap Config w.9.given.1))
-    (w.16 ∙
-    ap₂ (λ (m : Marks) (t : Taken). with_settings (with_marks g m) (with_on g.settings (level_setting b t.setting)) t.colour)
-    w.7.ensures w.12.ensures) w.17)
-    (⊎_elim
-    (λ w.
-    meets (at_write g f a b d w.1.taken w.2.ensures (w.4.given.1 ∙ ap Config w.9.given.1))
-    (w.11 ∙ ap (λ (m : Marks). set_fades (with_marks g m) b g.settings.fades.rate g.settings.fades.extended) w.7.ensures) w.12)
-    (⊎_elim
-    (λ w.
-    meets (at_write g f a b d w.1.taken w.2.ensures (w.4.given.1 ∙ ap Config w.9.given.1))
-    (w.11 ∙ ap (λ (m : Marks). set_fades (with_marks g m) g.settings.fades.time b g.settings.fades.extended) w.7.ensures) w.12)
-    (⊎_elim
-    (λ w.
-    meets (at_write g f a b d w.1.taken w.2.ensures (w.4.given.1 ∙ ap Config w.9.given.1))
-    (w.12 ∙ ap₂ (λ (m : Marks) (t : ℕ). set_fades (with_marks g m) g.settings.fades.time g.settings.fades.rate t) w.7.ensures w.10.ensures) w.13)
-    (⊎_elim
-    (λ w.
-    let command = w.4.given.1 ∙ ap Config w.9.given.1 in
-    let is = slot _ a a_byte (sym command ∙ w.2.ensures) in
-    let taken = w.12.ensures ∙ ap (λ (x : LevelSetting). take_staged_colour g.colour x.colour) (scene_at is low g.scenes) in
-    meets (at_write g f a b d w.1.taken w.2.ensures command)
-    (w.15 ∙
-    scene_put is low g w.7.ensures (ap (λ (t : Taken). level_setting b t.setting) taken) (ap (λ (t : Taken). t.colour) taken)) w.16)
-    (⊎_elim
-    (λ w.
-    let command = w.4.given.1 ∙ ap Config w.9.given.1 in
-    let is = slot _ a a_byte (sym command ∙ w.2.ensures) in
-    meets (at_write g f a b d w.1.taken w.2.ensures command)
-    (w.11 ∙ scene_put is low g w.7.ensures w.10.ensures refl) w.12)
-    (⊎_elim
-    (λ w.
-    let command = w.4.given.1 ∙ ap Config w.9.given.1 in
-    let is = slot _ a a_byte (sym command ∙ w.2.ensures) in
-    meets (at_write g f a b d w.1.taken w.2.ensures command)
-    (w.11 ∙ ap₂ (λ (m : Marks) (x : List Bool). with_settings (with_marks g m) (with_groups g.settings x) g.colour) w.7.ensures (stored_at is low g.settings.groups true)) w.12)
-    (⊎_elim
-    (λ w.
-    let command = w.4.given.1 ∙ ap Config w.9.given.1 in
-    let is = slot _ a a_byte (sym command ∙ w.2.ensures) in
-    meets (at_write g f a b d w.1.taken w.2.ensures command)
-    (w.11 ∙ ap₂ (λ (m : Marks) (x : List Bool). with_settings (with_marks g m) (with_groups g.settings x) g.colour) w.7.ensures (stored_at is low g.settings.groups false)) w.12)
-    (⊎_elim
-    (λ w. meets (at_write g f a b d w.1.taken w.2.ensures w.4.given.1) (w.9 ∙ w.8.ensures) w.10)
-    (⊎_elim
-    (λ w.
-    meets (at_write g f a b d w.1.taken w.2.ensures w.4.given.1) (w.7 ∙ ap (with_marks g) w.6.ensures) w.8)
-    (⊎_elim
-    (λ w.
-    meets (at_write g f a b d w.1.taken w.2.ensures w.4.given.1) (w.7 ∙ ap (with_marks g) w.6.ensures) w.8)
-    (⊎_elim
-    (λ w. meets (at_write g f a b d w.1.taken w.2.ensures w.4.given.1) w.5 w.6)
-    (λ w.
-    let r = w.0.rest in
-    meets
-    (at_none g f a b d
-    (past (past (past (past (past (past (past (past (past (past (past w.1.left r.0.0.0.0.0.0.0.0.0.0.1)
-    r.0.0.0.0.0.0.0.0.0.1) r.0.0.0.0.0.0.0.0.1) r.0.0.0.0.0.0.0.1) r.0.0.0.0.0.0.1)
-    r.0.0.0.0.0.1) r.0.0.0.0.1) r.0.0.0.1) r.0.0.1) r.0.1) r.1)) w.2 w.3)))))))))))))))))))))))))))))
-    c.match.branch
+    let a_byte : a < 256 = omega (arith, c.type_inv.steps (i + 1)) in
+    elim c.match-kind.branch [
+        in-2+then-reports w ↦
+        let scene = ap (λ (x : LevelSetting). shown g.colour.active g.settings.on.colour g.settings.failure.colour x.colour a) (scene_at_lem refl low g.scenes) in
+        let report = ap (report_from g.colour) (w.shown-setting.ensures ∙ scene) ∙ report_told g a (sym w.reports.ensures ∙ w.if-reports.true) in
+        meets (at_query g f a b d w.in-2.is)
+        (w.state-is ∙ light g refl w.walked-state.ensures (w.load_report_from-state.ensures ∙ report) ∙ sym (query_walks g a))
+        (w.answer-is ∙ w.told-answer.ensures ∙ telling g a low)
+      | in-2+else-reports w ↦
+        meets (at_query g f a b d w.in-2.is)
+        (w.state-is ∙ light g refl w.walked-state.ensures (report_left g a (sym w.reports.ensures ∙ w.if-reports.false)) ∙ sym (query_walks g a))
+        (w.answer-is ∙ w.told-answer.ensures ∙ telling g a low)
+      | in-3 w ↦
+        meets (at_read g f a b d w.in-3.is) w.state-is (w.answer-is ∙ w.location_answer-answer.ensures ∙ ap location_answer w.memory_location.ensures)
+      | in-4 w ↦
+        meets (at_stored g f a b d w.in-4.is) (w.state-is ∙ ap (λ (x : Written). with_banks g x.banks) w.write_memory_location-written.ensures)
+        (w.answer-is ∙ w.location_answer-answer-in-4.ensures ∙ ap (λ (x : Written). location_answer x.answer) w.write_memory_location-written.ensures)
+      | in-5 w ↦
+        meets (at_value g f a b d w.in-5.is) w.state-is (w.answer-is ∙ w.value_answer-answer.ensures ∙ ap value_answer w.color_value.ensures)
+      | in-6 w ↦
+        meets (at_limit g f a b d w.in-6.is)
+        (w.state-is ∙ ap (with_colour g) (w.store_tc_limit-state.ensures ∙ ap (λ (v : ℕ). store_tc_limit g.colour v a) w.pair.ensures)) w.answer-is
+      | in-7 w ↦
+        meets (at_tc_step g f a b d w.in-7.is) (w.state-is ∙ ap (with_colour g) w.tc_step-state.ensures) w.answer-is
+      | in-8 w ↦
+        meets (at_stage g f a b d w.in-8.is)
+        (w.state-is ∙
+        ap (with_colour g)
+        (w.load_temporaries_from-state.ensures ∙ ap (load_temporaries_from g.colour) (w.temperature.ensures ∙ ap temperature w.pair-in-8.ensures))) w.answer-is
+      | in-9 w ↦
+        meets (at_activate g f a b d w.in-9.is) (w.state-is ∙ ap (with_colour g) w.activate_pending_color-state.ensures) w.answer-is
+      | in-10 w ↦
+        meets (at_power_cycle g f a b d w.in-10.is)
+        (w.state-is ∙ light g w.power_up-state.ensures w.power_up-state-in-10.ensures w.power_up-state-in-10-2.ensures) w.answer-is
+      | in-11 w ↦
+        meets (at_copy_report g f a b d w.in-11.is) (w.state-is ∙ ap (with_colour g) w.copy_report_to_temporary-state.ensures) w.answer-is
+      | in-12 w ↦
+        meets (at_features g f a b d w.in-12.is) w.state-is w.answer-is
+      | in-0+in-Arc w ↦
+        meets (at_write g f a b d w.in-0.if-kind-lt2-own.true w.command_at-command.ensures w.in-Arc.is)
+        (w.state-is ∙ light g w.apply_arc-state.ensures (w.asked-state.ensures ∙ ap (asked g.marks) w.keeps_identify.ensures) w.arc_power_activation-state.ensures) w.answer-is
+      | in-0+in-GoToScene w ↦
+        let is = slot _ a a_byte (sym w.in-GoToScene.is ∙ w.command_at-command.ensures) in
+        meets (at_write g f a b d w.in-0.if-kind-lt2-own.true w.command_at-command.ensures w.in-GoToScene.is)
+        (w.state-is ∙
+        light g (w.recalled_levels-state.ensures ∙ ap (λ (x : LevelSetting). recalled_levels g.levels x.level) (scene_at_lem is low g.scenes)) w.asked-state-in-GoToScene.ensures
+        (w.recall-state.ensures ∙ ap (λ (x : LevelSetting). recall g.colour x.colour) (scene_at_lem is low g.scenes))) w.answer-is
+      | in-0+in-Config+in-SetMaxLevel w ↦
+        meets (at_write g f a b d w.in-0.if-kind-lt2-own.true w.command_at-command.ensures (w.in-Config.is ∙ ap Config w.in-SetMaxLevel.is))
+        (w.state-is ∙ light g w.set_max_level-state.ensures w.configured-state.ensures refl) w.answer-is
+      | in-0+in-Config+in-SetMinLevel w ↦
+        meets (at_write g f a b d w.in-0.if-kind-lt2-own.true w.command_at-command.ensures (w.in-Config.is ∙ ap Config w.in-SetMinLevel.is))
+        (w.state-is ∙ light g w.set_min-state.ensures w.configured-state.ensures refl) w.answer-is
+      | in-0+in-Config+in-SetSystemFailureLevel w ↦
+        meets (at_write g f a b d w.in-0.if-kind-lt2-own.true w.command_at-command.ensures (w.in-Config.is ∙ ap Config w.in-SetSystemFailureLevel.is))
+        (w.state-is ∙
+        ap₂ (λ (m : Marks) (t : Taken). with_settings (with_marks g m) (with_failure g.settings (level_setting b t.setting)) t.colour)
+        w.configured-state.ensures w.take_staged_colour-taken.ensures) w.answer-is
+      | in-0+in-Config+in-SetPowerOnLevel w ↦
+        meets (at_write g f a b d w.in-0.if-kind-lt2-own.true w.command_at-command.ensures (w.in-Config.is ∙ ap Config w.in-SetPowerOnLevel.is))
+        (w.state-is ∙
+        ap₂ (λ (m : Marks) (t : Taken). with_settings (with_marks g m) (with_on g.settings (level_setting b t.setting)) t.colour)
+        w.configured-state.ensures w.take_staged_colour-taken-in-SetPowerOnLevel.ensures) w.answer-is
+      | in-0+in-Config+in-SetFadeTime w ↦
+        meets (at_write g f a b d w.in-0.if-kind-lt2-own.true w.command_at-command.ensures (w.in-Config.is ∙ ap Config w.in-SetFadeTime.is))
+        (w.state-is ∙ ap (λ (m : Marks). set_fades (with_marks g m) b g.settings.fades.rate g.settings.fades.extended) w.configured-state.ensures) w.answer-is
+      | in-0+in-Config+in-SetFadeRate w ↦
+        meets (at_write g f a b d w.in-0.if-kind-lt2-own.true w.command_at-command.ensures (w.in-Config.is ∙ ap Config w.in-SetFadeRate.is))
+        (w.state-is ∙ ap (λ (m : Marks). set_fades (with_marks g m) g.settings.fades.time b g.settings.fades.extended) w.configured-state.ensures) w.answer-is
+      | in-0+in-Config+in-SetExtendedFadeTime w ↦
+        meets (at_write g f a b d w.in-0.if-kind-lt2-own.true w.command_at-command.ensures (w.in-Config.is ∙ ap Config w.in-SetExtendedFadeTime.is))
+        (w.state-is ∙ ap₂ (λ (m : Marks) (t : ℕ). set_fades (with_marks g m) g.settings.fades.time g.settings.fades.rate t) w.configured-state.ensures w.extended_fade-extended.ensures) w.answer-is
+      | in-0+in-Config+in-SetScene w ↦
+        let command = w.in-Config.is ∙ ap Config w.in-SetScene.is in
+        let is = slot _ a a_byte (sym command ∙ w.command_at-command.ensures) in
+        let taken = w.take_staged_colour-taken-in-SetScene.ensures ∙ ap (λ (x : LevelSetting). take_staged_colour g.colour x.colour) (scene_at_lem is low g.scenes) in
+        meets (at_write g f a b d w.in-0.if-kind-lt2-own.true w.command_at-command.ensures command)
+        (w.state-is ∙
+        scene_put is low g w.configured-state.ensures (ap (λ (t : Taken). level_setting b t.setting) taken) (ap (λ (t : Taken). t.colour) taken)) w.answer-is
+      | in-0+in-Config+in-RemoveScene w ↦
+        let command = w.in-Config.is ∙ ap Config w.in-RemoveScene.is in
+        let is = slot _ a a_byte (sym command ∙ w.command_at-command.ensures) in
+        meets (at_write g f a b d w.in-0.if-kind-lt2-own.true w.command_at-command.ensures command)
+        (w.state-is ∙ scene_put is low g w.configured-state.ensures w.unset-none.ensures refl) w.answer-is
+      | in-0+in-Config+in-AddToGroup w ↦
+        let command = w.in-Config.is ∙ ap Config w.in-AddToGroup.is in
+        let is = slot _ a a_byte (sym command ∙ w.command_at-command.ensures) in
+        meets (at_write g f a b d w.in-0.if-kind-lt2-own.true w.command_at-command.ensures command)
+        (w.state-is ∙ ap₂ (λ (m : Marks) (x : List Bool). with_settings (with_marks g m) (with_groups g.settings x) g.colour) w.configured-state.ensures (stored_at is low g.settings.groups true)) w.answer-is
+      | in-0+in-Config+in-RemoveFromGroup w ↦
+        let command = w.in-Config.is ∙ ap Config w.in-RemoveFromGroup.is in
+        let is = slot _ a a_byte (sym command ∙ w.command_at-command.ensures) in
+        meets (at_write g f a b d w.in-0.if-kind-lt2-own.true w.command_at-command.ensures command)
+        (w.state-is ∙ ap₂ (λ (m : Marks) (x : List Bool). with_settings (with_marks g m) (with_groups g.settings x) g.colour) w.configured-state.ensures (stored_at is low g.settings.groups false)) w.answer-is
+      | in-0+in-Reset w ↦
+        meets (at_write g f a b d w.in-0.if-kind-lt2-own.true w.command_at-command.ensures w.in-Reset.is) (w.state-is ∙ w.reset_gear-state.ensures) w.answer-is
+      | in-0+in-IdentifyDevice w ↦
+        meets (at_write g f a b d w.in-0.if-kind-lt2-own.true w.command_at-command.ensures w.in-IdentifyDevice.is) (w.state-is ∙ ap (with_marks g) w.identified-state.ensures) w.answer-is
+      | in-0+in-EnableWriteMemory w ↦
+        meets (at_write g f a b d w.in-0.if-kind-lt2-own.true w.command_at-command.ensures w.in-EnableWriteMemory.is) (w.state-is ∙ ap (with_marks g) w.enabled-state.ensures) w.answer-is
+      | in-0+in-Unknown w ↦
+        meets (at_write g f a b d w.in-0.if-kind-lt2-own.true w.command_at-command.ensures w.in-Unknown.is) w.state-is w.answer-is
+      | in_default w ↦
+        let r = w.in_default.in_default-own.rest in
+        meets
+        (at_none g f a b d
+        (past (past (past (past (past (past (past (past (past (past (past w.in_default.if-kind-lt2-own.false r.0.0.0.0.0.0.0.0.0.0.1)
+        r.0.0.0.0.0.0.0.0.0.1) r.0.0.0.0.0.0.0.0.1) r.0.0.0.0.0.0.0.1) r.0.0.0.0.0.0.1)
+        r.0.0.0.0.0.1) r.0.0.0.0.1) r.0.0.0.1) r.0.0.1) r.0.1) r.1)) w.state-is w.answer-is
+    ]
 
-kept : (c : Turn) → fitb c.match.state ≡ true
+kept : (c : Joined-kind) → fitb c.match-kind.state ≡ true
 unfolding performed
 kept c =
-    let at = c.before.before.before.before.before.before in
-    let i = at.loop.k * 4 in
-    let b-byte = c.before.before.shared-slice-known4.given (i + 2) in
-    let c-byte = c.before.shared-slice-known5.given (i + 3) in
-    rw (met c).0 (step_kept at.loop.state _ _ _ (omega (arith, b-byte)) (omega (arith, c-byte)) at.loop.invariant.2 _)
+    let i = c.loop-k.k * 4 in
+    let b-byte : get_or c.args.steps.now (i + 2) 0 < 256 = omega (arith, c.type_inv.steps (i + 2)) in
+    let c-byte : get_or c.args.steps.now (i + 3) 0 < 256 = omega (arith, c.type_inv.steps (i + 3)) in
+    rw (met c).0 (step_kept c.loop-k.state _ _ _ b-byte c-byte c.loop-k.invariant.2 _)
 
 -- where no lines are wanted, none are written
 unlined :
@@ -231,33 +212,9 @@ pub loop-k-init : goal.loop-k-init
 unfolding state_after answer_after
 loop-k-init c = let start = c in (search rules, refl, start.requires.0, told_none start.args.steps.now start.args.gear start.args.lines start.args.out.now, refl, refl)
 
-pub overflow_mul-i : goal.overflow_mul-i
-overflow_mul-i c = omega (arith, c)
-
-pub bounds-steps-i : goal.bounds-steps-i
-bounds-steps-i c = omega (arith, c)
-
-pub overflow_add-a : goal.overflow_add-a
-overflow_add-a c = omega (arith, c)
-
-pub bounds-steps-i-in-loop-k : goal.bounds-steps-i-in-loop-k
-bounds-steps-i-in-loop-k c = omega (arith, c)
-
-pub overflow_add-b : goal.overflow_add-b
-overflow_add-b c = omega (arith, c)
-
-pub bounds-steps-i-in-loop-k-2 : goal.bounds-steps-i-in-loop-k-2
-bounds-steps-i-in-loop-k-2 c = omega (arith, c)
-
-pub overflow_add-c : goal.overflow_add-c
-overflow_add-c c = omega (arith, c)
-
-pub bounds-steps-i-in-loop-k-3 : goal.bounds-steps-i-in-loop-k-3
-bounds-steps-i-in-loop-k-3 c = omega (arith, c)
-
 pub put_line-at-requires : goal.put_line-at-requires
 put_line-at-requires c =
-    let m = c in
+    let m = (goal.at.put_line-at-requires c).Joined-kind in
     let at = m in
     let below = m.loop-k-test.true in
     let start = at in
@@ -269,12 +226,9 @@ put_line-at-requires c =
     (line_room steps start.args.gear k (omega (arith, below, start.requires.1)) (omega (arith, below, start.requires.3 c.if-lines.true))
     (rw c.if-lines.true at at.loop-k.invariant.3))
 
-pub loop-k-smaller-then-lines : goal.loop-k-smaller-then-lines
-loop-k-smaller-then-lines c = omega (arith, c.loop-k-test.true)
-
 pub loop-k-preserved-then-lines : goal.loop-k-preserved-then-lines
 loop-k-preserved-then-lines c =
-    let m = c in
+    let m = (goal.at.loop-k-preserved-then-lines c).Joined-kind in
     let at = m in
     let below = m.loop-k-test.true in
     let start = at in
@@ -292,16 +246,13 @@ loop-k-preserved-then-lines c =
       rw lines
           (line_more steps g k (omega (arith, below, start.requires.1)) (omega (arith, below, room)) (rw lines at at.loop-k.invariant.3)
           (rw answered at put.ensures)),
-      put.auto.0 ∙ at.loop-k.invariant.4,
+      put.auto.buf ∙ at.loop-k.invariant.4,
       answered ∙ sym (answer_more steps g k),
     )
 
-pub loop-k-smaller : goal.loop-k-smaller
-loop-k-smaller c = omega (arith, c.loop-k-test.true)
-
 pub loop-k-preserved : goal.loop-k-preserved
 loop-k-preserved c =
-    let m = c in
+    let m = (goal.at.loop-k-preserved c).Joined-kind in
     let at = m in
     let below = m.loop-k-test.true in
     let start = at in
@@ -316,11 +267,8 @@ loop-k-preserved c =
       (met m).1 ∙ ap (λ (x : Gear). (performed steps x k).answer) at.loop-k.invariant.1 ∙ sym (answer_more steps g k),
     )
 
-pub shape_of-out : goal.shape_of-out
-shape_of-out c = c.loop-k.invariant.4
-
 pub returns : goal.returns
 returns c =
     let at = c in
     let whole : at.loop-k.k ≡ at.args.count = omega arith in
-    (rw whole at at.loop-k.invariant.1, (rw whole at at.loop-k.invariant.3, (rw whole at at.loop-k.invariant.5, at.loop-k.invariant.2)))
+    record { state = rw whole at at.loop-k.invariant.1; lines = rw whole at at.loop-k.invariant.3; answer = rw whole at at.loop-k.invariant.5; fit = at.loop-k.invariant.2 }

@@ -24,7 +24,7 @@ use Rattle.gear.specs.declared.answer.Outcome.{Outcome}
 use Rattle.gear.specs.declared.command.StandardCommand.TheVariants.{Config}
 use Rattle.colour.specs.Activation.{recall}
 use Rattle.colour.specs.declared.staging.Taken.{Taken}
-use Rattle.step.proofs.Slots.{slot, scene_at, stored_at}
+use Rattle.step.proofs.Slots.{slot, scene_at_lem, stored_at}
 use Rattle.gear.specs.declared.marks.Marks.{Marks}
 use Rattle.gear.specs.declared.record.Gear.{Gear}
 use Rattle.gear.specs.Write.{arc_write, config_write, enable_write, identify, recall_scene, recalled_levels, remove_scene, set_fades, set_power_on_level, set_scene, set_system_failure_level, write}

@@ -13,7 +13,7 @@ put_letters-second-requires c =
     let start = c in
     let a = start.args in
     let room =
-    end_fits a.at a.level a.min a.max (omega (arith, start.well-formed)) (omega (arith, start.well-formed)) (omega (arith, start.well-formed)) start.requires in
+    end_fits a.at a.level a.min a.max (omega (arith, start.well_formed)) (omega (arith, start.well_formed)) (omega (arith, start.well_formed)) start.requires in
     omega (arith, room, length-append (101 ∷ 110 ∷ 100 ∷ 32 ∷ []) (number_text a.level 32 ++ (number_text a.min 32 ++ number_text a.max 10)))
 
 pub put_number-third-requires : goal.put_number-third-requires
@@ -23,7 +23,7 @@ put_number-third-requires c =
     let start = w₁ in
     let a = start.args in
     let room =
-    end_fits a.at a.level a.min a.max (omega (arith, start.well-formed)) (omega (arith, start.well-formed)) (omega (arith, start.well-formed)) start.requires in
+    end_fits a.at a.level a.min a.max (omega (arith, start.well_formed)) (omega (arith, start.well_formed)) (omega (arith, start.well_formed)) start.requires in
     let rest = number_text a.min 32 ++ number_text a.max 10 in
     let r₁ = room_then (number_text a.level 32 ++ rest) room w₁.put_letters-second.ensures in
     omega (arith, r₁, length-append (number_text a.level 32) rest)
@@ -36,7 +36,7 @@ put_number-fourth-requires c =
     let start = w₁ in
     let a = start.args in
     let room =
-    end_fits a.at a.level a.min a.max (omega (arith, start.well-formed)) (omega (arith, start.well-formed)) (omega (arith, start.well-formed)) start.requires in
+    end_fits a.at a.level a.min a.max (omega (arith, start.well_formed)) (omega (arith, start.well_formed)) (omega (arith, start.well_formed)) start.requires in
     let rest = number_text a.min 32 ++ number_text a.max 10 in
     let r₁ = room_then (number_text a.level 32 ++ rest) room w₁.put_letters-second.ensures in
     let r₂ = room_then rest r₁ w₂.put_number-third.ensures in
@@ -51,7 +51,7 @@ put_number-requires c =
     let start = w₁ in
     let a = start.args in
     let room =
-    end_fits a.at a.level a.min a.max (omega (arith, start.well-formed)) (omega (arith, start.well-formed)) (omega (arith, start.well-formed)) start.requires in
+    end_fits a.at a.level a.min a.max (omega (arith, start.well_formed)) (omega (arith, start.well_formed)) (omega (arith, start.well_formed)) start.requires in
     let rest = number_text a.min 32 ++ number_text a.max 10 in
     let r₁ = room_then (number_text a.level 32 ++ rest) room w₁.put_letters-second.ensures in
     let r₂ = room_then rest r₁ w₂.put_number-third.ensures in
@@ -67,10 +67,10 @@ returns c =
     let start = w₁ in
     let a = start.args in
     let room =
-    end_fits a.at a.level a.min a.max (omega (arith, start.well-formed)) (omega (arith, start.well-formed)) (omega (arith, start.well-formed)) start.requires in
+    end_fits a.at a.level a.min a.max (omega (arith, start.well_formed)) (omega (arith, start.well_formed)) (omega (arith, start.well_formed)) start.requires in
     let rest = number_text a.min 32 ++ number_text a.max 10 in
     let r₁ = room_then (number_text a.level 32 ++ rest) room w₁.put_letters-second.ensures in
     let r₂ = room_then rest r₁ w₂.put_number-third.ensures in
     let line =
     wrote_then room w₁.put_letters-second.ensures (wrote_then r₁ w₂.put_number-third.ensures (wrote_then r₂ w₃.put_number-fourth.ensures w₄.put_number.ensures)) in
-    (line, omega (arith, line.next_is, room))
+    record { line = line; within = omega (arith, line.next_is, room) }

@@ -32,8 +32,8 @@ put_end-requires c =
     let s = start.args.file.now in
     let first : made.new-made.result.gear ≡ first_of s =
     ap (λ (o : Outcome). o.gear) (made.new-made.ensures ∙ ap new_gear made.profile_of.ensures) in
-    end_room s start.requires.1 ran.follow-finished.auto.1.1.1.1.0
-    (rw (ran.steps-steps.ensures, first) at ran.follow-finished.ensures.1.0)
+    end_room s start.requires.1 ran.follow-finished.auto.out
+    (rw (ran.steps-steps.ensures, first) at ran.follow-finished.ensures.lines)
 
 pub returns : goal.returns
 returns c =
@@ -44,8 +44,8 @@ returns c =
     let s = start.args.file.now in
     let first : made.new-made.result.gear ≡ first_of s =
     ap (λ (o : Outcome). o.gear) (made.new-made.ensures ∙ ap new_gear made.profile_of.ensures) in
-    let same = ran.steps-steps.ensures in (
-      end_more s (rw (same, first) at ran.follow-finished.ensures.1.0)
-          (rw (ran.follow-finished.ensures.0, same, first) at ended.put_end.ensures.0),
-      omega (arith, ended.put_end.ensures.1, ran.follow-finished.auto.1.1.1.1.0),
-    )
+    let same = ran.steps-steps.ensures in record {
+      lines = end_more s (rw (same, first) at ran.follow-finished.ensures.lines)
+          (rw (ran.follow-finished.ensures.state, same, first) at ended.put_end.ensures.line);
+      within = omega (arith, ended.put_end.ensures.within, ran.follow-finished.auto.out);
+    }

@@ -8,14 +8,15 @@ use Rattle.runner.specs.Run.{printed_as}
 use Rattle.runner.specs.Line.{bad_text}
 use Rattle.runner.proofs.Lines.{bad_length}
 use Rattle.file.proofs.Offset.{offset_within}
-use Rattle.runner.proofs.Whole.{room_is, reported_all, reported_none, beside}
+use Rattle.runner.proofs.Whole.{room_is, reported_all, reported_none}
 use Rattle.runner.proofs.run.report.Goals as goal
 
 pub returns-then-out-wanted : goal.returns-then-out-wanted
 returns-then-out-wanted c =
     let start = c in
     let s = start.args.file.now in
-    beside (rw c.room-wanted.ensures (reported_none s (omega (arith, c.if-out-wanted.true, c.room-wanted.ensures)))) (omega arith)
+    let none = reported_none s (omega (arith, c.if-out-wanted.true, c.room-wanted.ensures)) in
+    record { answer = rw c.room-wanted.ensures none.0; buffer = none.1; within = omega arith }
 
 pub put_bad-requires : goal.put_bad-requires
 put_bad-requires c =
@@ -42,9 +43,12 @@ returns-in-Bad c =
     let fits = bad_length _ (offset_within s _ bad) in
     let left = checks.if-out-wanted.false in
     let wanted = checks.room-wanted.ensures in
-    beside
-    (reported_all s (omega (arith, left, wanted)) (rw (ap (printed_as s) bad) put.put_bad.ensures))
-    (omega (arith, fits, left, wanted, put.put_bad.ensures.next_is, room_is s))
+    let all = reported_all s (omega (arith, left, wanted)) (rw (ap (printed_as s) bad) put.put_bad.ensures) in
+    record {
+      answer = all.0;
+      buffer = all.1;
+      within = omega (arith, fits, left, wanted, put.put_bad.ensures.next_is, room_is s);
+    }
 
 pub returns-in-Good : goal.returns-in-Good
 returns-in-Good c =
@@ -53,7 +57,7 @@ returns-in-Good c =
     let checks = at in
     let s = checks.args.file.now in
     let good = sym checks.check-verdict.ensures ∙ at.in-Good.is in
-    beside
-    (reported_all s (omega (arith, checks.if-out-wanted.false, checks.room-wanted.ensures))
-    (rw (ap (printed_as s) good) put.put_lines.ensures.0))
-    put.put_lines.ensures.1
+    let all =
+    reported_all s (omega (arith, checks.if-out-wanted.false, checks.room-wanted.ensures))
+    (rw (ap (printed_as s) good) put.put_lines.ensures.lines) in
+    record { answer = all.0; buffer = all.1; within = put.put_lines.ensures.within }

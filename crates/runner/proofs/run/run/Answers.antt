@@ -5,7 +5,7 @@ use Rattle.file.specs.declared.Verdict.{Verdict}
 use Rattle.file.specs.declared.Verdict.TheVariants.{Good, Bad}
 use Rattle.file.specs.File.{checked}
 use Rattle.runner.specs.Run.{printed_as}
-use Rattle.runner.proofs.Whole.{reported_all, reported_none, served_good, served_bad, beside}
+use Rattle.runner.proofs.Whole.{reported_all, reported_none, served_good, served_bad}
 use Rattle.runner.proofs.run.run.Goals as goal
 
 pub returns-then-out-wanted : goal.returns-then-out-wanted
@@ -15,10 +15,8 @@ returns-then-out-wanted c =
     let start = checks in
     let s = start.args.file.now in
     let good = sym checks.check-verdict.ensures ∙ at.in-Good.is in
-    beside
-    (served_good s start.args.out.now good
-    (rw c.room-wanted.ensures (reported_none s (omega (arith, c.if-out-wanted.true, c.room-wanted.ensures)))))
-    (omega arith)
+    let none = served_good s start.args.out.now good (reported_none s (omega (arith, c.if-out-wanted.true, c.room-wanted.ensures))) in
+    record { answer = rw c.room-wanted.ensures none.0; buffer = none.1; within = omega arith }
 
 pub put_lines-requires : goal.put_lines-requires
 put_lines-requires c =
@@ -30,7 +28,8 @@ returns-in-Bad c =
     let checks = c in
     let start = checks in
     let s = start.args.file.now in
-    beside (served_bad s start.args.out.now (sym checks.check-verdict.ensures ∙ c.in-Bad.is)) (omega arith)
+    let bad = served_bad s start.args.out.now (sym checks.check-verdict.ensures ∙ c.in-Bad.is) in
+    record { answer = bad.0; buffer = bad.1; within = omega arith }
 
 pub returns-else-out-wanted : goal.returns-else-out-wanted
 returns-else-out-wanted c =
@@ -41,8 +40,8 @@ returns-else-out-wanted c =
     let start = checks in
     let s = start.args.file.now in
     let good = sym checks.check-verdict.ensures ∙ at.in-Good.is in
-    beside
-    (served_good s start.args.out.now good
+    let all =
+    served_good s start.args.out.now good
     (reported_all s (omega (arith, other.if-out-wanted.false, other.room-wanted.ensures))
-    (rw (ap (printed_as s) good) put.put_lines.ensures.0)))
-    put.put_lines.ensures.1
+    (rw (ap (printed_as s) good) put.put_lines.ensures.lines)) in
+    record { answer = all.0; buffer = all.1; within = put.put_lines.ensures.within }
