@@ -12,8 +12,7 @@ ghost use Rattle.runner.specs.Run.{ran, ran_into, reported, reported_into, room}
 use crate::code::{asked_code, asked_detail, ran_code, ran_detail, verdict_code, verdict_detail};
 
 // Judges a file. The detail is the offset of its lowest fault, or 0.
-#[unsafe(no_mangle)]
-pub extern "C" fn dali_gear_check(file: &[u8], detail: &mut usize) -> u32
+pub fn dali_gear_check(file: &[u8], detail: &mut usize) -> u32
     ensures code { result ≡ verdict_code (checked file.now) }
     ensures detail { detail.new ≡ verdict_detail (checked file.now) }
 {
@@ -23,8 +22,7 @@ pub extern "C" fn dali_gear_check(file: &[u8], detail: &mut usize) -> u32
 }
 
 // The bytes that a buffer needs for whatever the file's lines are: 16 for a malformed file.
-#[unsafe(no_mangle)]
-pub extern "C" fn dali_gear_room(file: &[u8]) -> usize
+pub fn dali_gear_room(file: &[u8]) -> usize
     ensures { result ≡ room file.now }
 {
     runner::run::room(file)
@@ -32,8 +30,7 @@ pub extern "C" fn dali_gear_room(file: &[u8]) -> usize
 
 // Runs a file. The detail is the bytes written, the offset of a malformed file's lowest fault, or the bytes that the buffer needs. The
 // file is judged before the buffer.
-#[unsafe(no_mangle)]
-pub extern "C" fn dali_gear_run(file: &[u8], out: &mut [u8], detail: &mut usize) -> u32
+pub fn dali_gear_run(file: &[u8], out: &mut [u8], detail: &mut usize) -> u32
     ensures code { result ≡ ran_code (ran file.now (length out.old)) }
     ensures detail { detail.new ≡ ran_detail (ran file.now (length out.old)) }
     ensures buffer { out.new ≡ ran_into file.now out.old }
@@ -45,8 +42,7 @@ pub extern "C" fn dali_gear_run(file: &[u8], out: &mut [u8], detail: &mut usize)
 
 // Writes what the program `session` prints. Of a malformed file that is the line `bad` with the offset, and the code is 0, never 5.
 // The detail is the bytes written, or those that the buffer needs. The buffer is judged before the file.
-#[unsafe(no_mangle)]
-pub extern "C" fn dali_gear_report(file: &[u8], out: &mut [u8], detail: &mut usize) -> u32
+pub fn dali_gear_report(file: &[u8], out: &mut [u8], detail: &mut usize) -> u32
     ensures code { result ≡ ran_code (reported file.now (length out.old)) }
     ensures detail { detail.new ≡ ran_detail (reported file.now (length out.old)) }
     ensures buffer { out.new ≡ reported_into file.now out.old }
@@ -58,8 +54,7 @@ pub extern "C" fn dali_gear_report(file: &[u8], out: &mut [u8], detail: &mut usi
 
 // One more step on the record that the file's steps leave. The detail is the value, the number of what the gear lacks for it, or the
 // offset of a malformed file's lowest fault.
-#[unsafe(no_mangle)]
-pub extern "C" fn dali_gear_ask(
+pub fn dali_gear_ask(
     file: &[u8],
     kind: u8,
     a: u8,
