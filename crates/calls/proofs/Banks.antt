@@ -2,7 +2,6 @@
 -- `advances_dtr0_past`, a record with other banks gives the same answer, and a record that differs in its banks alone.
 use Prim.Native.Nat.{ℕ}
 use mathlib.Core.Path.{◌≡◌, refl}
-use mathlib.Core.Bool.{Bool, true, false}
 use mathlib.Core.List.{[]}
 use lib.Dec.{eqb, leb}
 use Rattle.bank.specs.declared.build.Banks.{Banks}

@@ -1,7 +1,7 @@
 -- The calls of this crate that no bank byte reaches, as one table.
 use Prim.Native.Nat.{ℕ}
 use mathlib.Core.Path.{◌≡◌, refl}
-use mathlib.Core.Bool.{Bool, true, false}
+use mathlib.Core.Bool.{Bool}
 use Rattle.calls.specs.Address.{addressed, judged, matching, matches_call}
 use Rattle.calls.specs.Colours.{activate_call, automatic_call, color_value_call, colour_status_call, control_call, copy_report_call, feature_byte_call, features_call, recoloured, set_features_call, stage_call, store_tc_limit_call, tc_step_call, xy_step_call}
 use Rattle.calls.specs.declared.address.Address.{Address}
@@ -11,11 +11,10 @@ use Rattle.calls.specs.Pairing.{hear, hear_call, hear_elsewhere_call, holds_call
 use Rattle.calls.specs.Power.{power_cycle, power_cycle_call}
 use Rattle.calls.specs.Reads.{actual_level_call, failure_bits_call, lamp_failure_call, lamp_on_call, status_call, thermal_call, type_call}
 use Rattle.calls.specs.Setters.{set_enabled_call, set_faults_call, set_lamp_failure_call, set_lamp_starting_call}
-use Rattle.calls.proofs.Banks.{Alike, Blind, BlindRead, serve_alike, tell_alike, unbanked}
+use Rattle.calls.proofs.Banks.{Alike, Blind, BlindRead, serve_alike, tell_alike}
 use Rattle.bank.specs.declared.build.Banks.{Banks}
 use Rattle.colour.specs.declared.record.Colour.{Colour}
 use Rattle.colour.specs.declared.setting.ColourSetting.{ColourSetting}
-use Rattle.gear.specs.declared.answer.Answer.{Answer}
 use Rattle.gear.specs.declared.answer.Answer.TheVariants.{Done}
 use Rattle.gear.specs.declared.condition.Faults.{Faults}
 use Rattle.gear.specs.declared.record.Gear.{Gear}

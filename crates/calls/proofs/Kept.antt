@@ -1,7 +1,7 @@
 -- Every call keeps a fit record fit; and all but the power cycle leave the levels as they are.
 use Prim.Native.Nat.{ℕ, ◌<◌}
 use mathlib.Core.Path.{◌≡◌, refl}
-use mathlib.Core.Bool.{Bool, true, false}
+use mathlib.Core.Bool.{Bool, true}
 use Rattle.calls.specs.Colours.{recoloured, tc_step_call, xy_step_call, store_tc_limit_call, stage_call, activate_call, copy_report_call, set_features_call}
 use Rattle.calls.specs.Memory.{rebanked, write_memory_call, set_lock_call, set_location_call, set_unit_call, set_last_call, clear_number_call}
 use Rattle.calls.specs.Pairing.{waits, is_open, waiting, heard_answer, paired, hear, hear_call, hear_elsewhere_call}
@@ -16,17 +16,13 @@ use Rattle.colour.proofs.KeptLimits as ColourLimits
 use Rattle.gear.specs.Answer.{done}
 use Rattle.gear.specs.declared.answer.Answer.{Answer}
 use Rattle.gear.specs.declared.answer.Answer.TheVariants.{Done, Value}
-use Rattle.gear.specs.declared.answer.Outcome.{Outcome}
-use Rattle.gear.specs.declared.marks.Marks.{Marks}
 use Rattle.gear.specs.declared.marks.Pair.{Pair}
 use Rattle.gear.specs.declared.marks.Pair.TheVariants.{Closed}
-use Rattle.gear.specs.declared.marks.Walk.TheVariants.{Off}
 use Rattle.gear.specs.declared.condition.Faults.{Faults}
 use Rattle.gear.specs.declared.record.Gear.{Gear}
-use Rattle.gear.specs.Marks.{walk_fit, with_pair}
+use Rattle.gear.specs.Marks.{walk_fit}
 use Rattle.gear.specs.Parts.{with_banks, with_colour}
 use Rattle.gear.specs.Record.{fitb}
-use Rattle.gear.specs.Serve.{serve}
 use Rattle.gear.proofs.Fit.{GearFit}
 use Rattle.gear.proofs.Kept.{serve_kept}
 use Rattle.level.proofs.Fit as LevelFit

@@ -1,7 +1,6 @@
 -- Memory calls on a record: bank's rules under the fit test.
 use Rattle.std.specs.Prelude.{ℕ}
 use Rattle.bank.specs.declared.build.Banks.{Banks}
-use Rattle.bank.specs.declared.memory.Written.{Written}
 use Rattle.bank.specs.Memory.{memory_location, write_memory_location, advances_dtr0_past, implements_bank}
 use Rattle.bank.specs.Setters.{set_bank1_lock_byte, set_bank1_location, set_logical_gear_unit, set_bank0_last_offset, clear_identification_number}
 use Rattle.gear.specs.Answer.{flag, location_answer}

@@ -1,13 +1,11 @@
 -- What a fit colour record says of its numbers, and the other way round.
-use Prim.Native.Nat.{ℕ, ◌≤◌, ◌<◌}
+use Prim.Native.Nat.{◌≤◌, ◌<◌}
 use mathlib.Core.Path.{◌≡◌}
 use mathlib.Core.Bool.{true}
 use lib.Dec.{leb, ltb}
 use borrow.Author.Tests.{le-leb, lt-ltb, leb-true, ltb-true}
 use Rattle.colour.specs.declared.limits.Limits.{Limits}
 use Rattle.colour.specs.declared.record.Colour.{Colour}
-use Rattle.colour.specs.declared.tint.Tint.{Tint}
-use Rattle.colour.specs.declared.tint.ColorMode.TheVariants.{Cct}
 use Rattle.colour.specs.Limits.{effective_coolest, effective_warmest, limits_fit}
 use Rattle.numbers.specs.Numbers.{both}
 use Rattle.colour.specs.Record.{fitb}

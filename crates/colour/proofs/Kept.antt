@@ -1,6 +1,6 @@
 -- Activation, staging, steps and reports keep a fit colour record fit: the limits stay in order and within the physical
 -- pair, and an active colour temperature stays within the effective limits.
-use Prim.Native.Nat.{ℕ, ◌≤◌, ◌-◌}
+use Prim.Native.Nat.{ℕ, ◌≤◌}
 use mathlib.Core.Path.{◌≡◌, refl}
 use mathlib.Core.Bool.{Bool, true, false}
 use lib.Dec.{eqb, leb}

@@ -1,6 +1,6 @@
 -- The limit store, a reset and the fresh record: the limits stay in order and within the physical pair, no physical limit
 -- becomes 65,535, and an active colour temperature stays within the effective limits.
-use Prim.Native.Nat.{ℕ, ◌≤◌, ◌<◌, ◌-◌, min, max}
+use Prim.Native.Nat.{ℕ, ◌≤◌, ◌<◌, min, max}
 use mathlib.Core.Path.{◌≡◌, refl}
 use mathlib.Core.Bool.{Bool, true, false}
 use lib.Dec.{eqb, leb, ltb}
@@ -10,7 +10,6 @@ use Rattle.colour.specs.declared.limits.Limits.{Limits}
 use Rattle.colour.specs.declared.record.Capabilities.{Capabilities}
 use Rattle.colour.specs.declared.record.Colour.{Colour}
 use Rattle.colour.specs.declared.tint.Tint.{Tint}
-use Rattle.colour.specs.Activation.{within}
 use Rattle.colour.specs.Limits.{effective_coolest, effective_warmest, rendered, store_limit, store_coolest, store_warmest, store_physical, pulled}
 use Rattle.numbers.specs.Numbers.{both, pick, clamp_to}
 use Rattle.colour.specs.Record.{fresh, reset}

@@ -1,13 +1,11 @@
 -- What each colour call leaves alone, and when nothing is staged.
 use Prim.Native.Nat.{ℕ}
 use mathlib.Core.Path.{◌≡◌, refl, ◌∙◌, sym, ap}
-use mathlib.Core.Bool.{Bool, true, false}
+use mathlib.Core.Bool.{Bool}
 use lib.Dec.{eqb, leb}
-use Rattle.colour.specs.declared.record.Capabilities.{Capabilities}
 use Rattle.colour.specs.declared.record.Colour.{Colour}
 use Rattle.colour.specs.declared.setting.ColourSetting.{ColourSetting}
-use Rattle.colour.specs.declared.tint.ColorMode.{ColorMode}
-use Rattle.colour.specs.declared.tint.ColorMode.TheVariants.{None, Cct, Xy, Rgb}
+use Rattle.colour.specs.declared.tint.ColorMode.TheVariants.{None}
 use Rattle.colour.specs.declared.tint.Tint.{Tint}
 use Rattle.colour.specs.Activation.{activated, strays, activate, automatic, arc_power, recall}
 use Rattle.colour.specs.Bounded.{bounded, put_back, store_bounded}

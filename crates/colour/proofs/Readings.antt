@@ -6,8 +6,8 @@ use lib.ListN.{replicate}
 use Rattle.colour.specs.declared.record.Colour.{Colour}
 use Rattle.colour.specs.declared.setting.ColourSetting.{ColourSetting}
 use Rattle.colour.specs.declared.value.ColourValue.TheVariants.{Value, Unknown}
-use Rattle.colour.specs.Activation.{activated, strays, unlinked, chosen, activate}
-use Rattle.colour.specs.Limits.{effective_coolest, effective_warmest, store_coolest, store_warmest, store_physical, store_limit}
+use Rattle.colour.specs.Activation.{activated, strays, unlinked, activate}
+use Rattle.colour.specs.Limits.{effective_coolest, effective_warmest, store_coolest, store_warmest, store_limit}
 use Rattle.colour.specs.Record.{fresh}
 use Rattle.colour.specs.Staging.{load, load_temporaries_from}
 use Rattle.colour.specs.Steps.{snaps, snapped, store_tc_limit}

@@ -4,7 +4,7 @@ use Rattle.colour.specs.declared.limits.Limits.{Limits}
 use Rattle.colour.specs.declared.record.Colour.{Colour}
 use Rattle.colour.specs.declared.setting.ColourSetting.{ColourSetting}
 use Rattle.colour.specs.declared.tint.Tint.{Tint}
-use Rattle.colour.specs.declared.tint.ColorMode.TheVariants.{None, Cct, Xy, Rgb}
+use Rattle.colour.specs.declared.tint.ColorMode.TheVariants.{Cct, Xy, Rgb}
 use Rattle.colour.specs.Limits.{effective_coolest, effective_warmest}
 use Rattle.numbers.specs.Numbers.{pick, clamp_to}
 use Rattle.colour.specs.Staging.{load_temporaries_from}

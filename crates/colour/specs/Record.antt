@@ -1,10 +1,7 @@
 -- The colour record: fresh, reset and at power-up (part 209, table 8), and when it is fit (document 01).
 use Rattle.std.specs.Prelude.{ℕ, Bool, false, leb, replicate}
-use Rattle.colour.specs.declared.limits.Limits.{Limits}
 use Rattle.colour.specs.declared.record.Capabilities.{Capabilities}
 use Rattle.colour.specs.declared.record.Colour.{Colour}
-use Rattle.colour.specs.declared.setting.ColourSetting.{ColourSetting}
-use Rattle.colour.specs.declared.tint.Tint.{Tint}
 use Rattle.colour.specs.Limits.{range, limits_fit}
 use Rattle.numbers.specs.Numbers.{both}
 use Rattle.colour.specs.Setting.{mask}

@@ -54,14 +54,7 @@ pub fn dali_gear_report(file: &[u8], out: &mut [u8], detail: &mut usize) -> u32
 
 // One more step on the record that the file's steps leave. The detail is the value, the number of what the gear lacks for it, or the
 // offset of a malformed file's lowest fault.
-pub fn dali_gear_ask(
-    file: &[u8],
-    kind: u8,
-    a: u8,
-    b: u8,
-    c: u8,
-    detail: &mut usize,
-) -> u32
+pub fn dali_gear_ask(file: &[u8], kind: u8, a: u8, b: u8, c: u8, detail: &mut usize) -> u32
     ensures code { result ≡ asked_code (asked file.now kind a b c) }
     ensures detail { detail.new ≡ asked_detail (asked file.now kind a b c) }
 {

@@ -1,6 +1,6 @@
 -- What is asked of a well-formed file is refused with 3 or not at all: its record is fit, and no step has a group address.
 use Prim.Native.Nat.{ℕ, zero, suc, ◌+◌, ◌*◌, ◌<◌}
-use mathlib.Core.Path.{◌≡◌, refl, sym, ◌∙◌, subst}
+use mathlib.Core.Path.{◌≡◌, refl, subst}
 use mathlib.Core.Bool.{Bool, true, false}
 use mathlib.Core.List.{List, [], ◌∷◌}
 use mathlib.Core.Option.{Option, none, some}
@@ -15,7 +15,6 @@ use Rattle.demands.proofs.Steps.{step_exactly}
 use Rattle.file.specs.declared.Verdict.TheVariants.{Good}
 use Rattle.file.specs.File.{byte, checked, profile_at, step_count, steps_of, well_formed}
 use Rattle.gear.specs.declared.answer.Answer.TheVariants.{Refused}
-use Rattle.gear.specs.declared.answer.Outcome.{Outcome}
 use Rattle.gear.specs.declared.answer.Refusal.{Refusal}
 use Rattle.gear.specs.declared.answer.Refusal.TheVariants.{Byte}
 use Rattle.gear.specs.declared.record.Gear.{Gear}

@@ -1,6 +1,5 @@
 -- Every call leaves two records that differ in their banks alone as such, and every call but those of the banks answers both alike.
-use Prim.Native.Nat.{ℕ}
-use mathlib.Core.Path.{◌≡◌, refl, sym, ap, ◌∙◌}
+use mathlib.Core.Path.{◌≡◌, refl, ap, ◌∙◌}
 use mathlib.Core.List.{List, [], ◌∷◌}
 use Rattle.demands.specs.Blind.{OfBanks, SameButBanks, KeepsBlind}
 use Rattle.demands.specs.Calls.{Call, perform}
@@ -11,7 +10,6 @@ use Rattle.calls.proofs.Banks.{unbanked, arc_power_blind, query_blind, standard_
 use Rattle.calls.proofs.BlindCalls.{blind_calls}
 use Rattle.calls.specs.Memory.{rebanked, write_memory_call}
 use Rattle.gear.specs.declared.answer.Answer.{Answer}
-use Rattle.gear.specs.declared.answer.Outcome.{Outcome}
 use Rattle.gear.specs.declared.record.Gear.{Gear}
 use Rattle.gear.specs.Parts.{with_banks}
 use Rattle.gear.specs.Record.{fitb}

@@ -18,7 +18,6 @@ use Rattle.gear.specs.Record.{new_gear}
 use Rattle.gear.proofs.Built.{none_unfit}
 use Rattle.numbers.proofs.Logic.{by_cases, no_false}
 use Rattle.gear.specs.declared.answer.Answer.TheVariants.{Refused}
-use Rattle.gear.specs.declared.answer.Outcome.{Outcome}
 use Rattle.gear.specs.declared.answer.Refusal.{Refusal}
 use Rattle.file.specs.declared.Verdict.{Verdict}
 use Rattle.file.specs.declared.Verdict.TheVariants.{Good, Bad}

@@ -4,7 +4,6 @@ use Rattle.demands.specs.Calls.{Behaviour, Call}
 use Rattle.demands.specs.Calls.Call.{ReadMemory, WriteMemory, AdvancesDtr0}
 use Rattle.demands.specs.Readings.{after}
 use Rattle.bank.specs.declared.build.Banks.{Banks}
-use Rattle.gear.specs.declared.answer.Outcome.{Outcome}
 use Rattle.gear.specs.declared.record.Gear.{Gear}
 use Rattle.gear.specs.Parts.{with_banks}
 

@@ -12,7 +12,6 @@ use Rattle.gear.specs.declared.answer.Refusal.TheVariants.{Profile as ProfileRef
 use Rattle.gear.specs.declared.profile.Profile.{Profile}
 use Rattle.gear.specs.declared.record.Gear.{Gear}
 use Rattle.gear.specs.Record.{fresh_gear, new_gear}
-use Rattle.gear.specs.declared.answer.Outcome.{Outcome}
 use Rattle.file.specs.declared.Verdict.TheVariants.{Good, Bad}
 use Rattle.file.specs.File.{byte, checked, profile_at, step_count, well_formed}
 use Rattle.runner.specs.declared.ask.Asked.TheVariants.{Told, Malformed as Unasked}

@@ -8,7 +8,6 @@ use Rattle.demands.specs.Table.{RowsOf}
 use Rattle.gear.specs.Answer.{refused}
 use Rattle.gear.specs.declared.answer.Answer.{Answer}
 use Rattle.gear.specs.declared.answer.Answer.TheVariants.{Done, Value, Nothing, Incapable, Refused}
-use Rattle.gear.specs.declared.answer.Outcome.{Outcome}
 use Rattle.gear.specs.declared.answer.Refusal.{Refusal}
 use Rattle.gear.specs.declared.record.Gear.{Gear}
 use Rattle.numbers.specs.Numbers.{pick}

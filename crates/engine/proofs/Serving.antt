@@ -1,6 +1,6 @@
 -- A call that does its rule's work on every image of a fit record is served; the two refusals.
 use Prim.Native.Nat.{ℕ}
-use mathlib.Core.Path.{◌≡◌, refl, sym, ap}
+use mathlib.Core.Path.{◌≡◌, sym}
 use mathlib.Core.Bool.{true, false}
 use mathlib.Core.List.{List}
 use lib.Dec.{eqb}
@@ -21,7 +21,6 @@ use Rattle.slot.proofs.Forth.{image_forth, is_fit}
 use Rattle.slot.proofs.Lists.{all_bytes}
 use Rattle.slot.proofs.Passes.{held_sound}
 use Rattle.slot.specs.Held.{Does, Holds, Tells, heldb}
-use Rattle.slot.specs.Image.{image_of}
 use Rattle.slot.specs.Record.{gear_of}
 
 -- what the work on an image comes to

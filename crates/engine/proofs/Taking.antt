@@ -3,10 +3,8 @@ use Prim.Native.Nat.{ℕ, ◌+◌, ◌*◌, ◌<◌}
 use mathlib.Core.Path.{◌≡◌, refl, ap, subst, ◌∙◌}
 use mathlib.Core.Bool.{false, true}
 use mathlib.Core.List.{List}
-use lib.Dec.{leb}
 use lib.ListN.{drop, get_or, length, set}
 use lib.Seq.{get_or-set_same, set-set}
-use borrow.Author.Tests.{le-leb}
 use native.Mathlib.Omega.{arith}
 use Rattle.colour.specs.declared.record.Colour.{Colour}
 use Rattle.colour.specs.declared.setting.ColourSetting.{ColourSetting}
@@ -20,7 +18,7 @@ use Rattle.engine.proofs.Scenes.{colour_held, level_held}
 use Rattle.engine.specs.Colours.{taken}
 use Rattle.gear.specs.declared.record.Gear.{Gear}
 use Rattle.gear.specs.declared.settings.LevelSetting.{LevelSetting}
-use Rattle.gear.specs.Parts.{with_colour, with_scenes, with_settings}
+use Rattle.gear.specs.Parts.{with_scenes, with_settings}
 use Rattle.gear.specs.Scene.{nowhere}
 use Rattle.gear.specs.Settings.{level_setting, with_failure, with_on}
 use Rattle.slot.proofs.Read.{part}

@@ -1,7 +1,6 @@
 -- 'Level is 0 or within min..max' is kept by every write to a fit record.
 use Prim.Native.Nat.{ℕ, ◌≤◌}
-use mathlib.Core.Path.{◌≡◌, refl}
-use mathlib.Core.Bool.{Bool, true, false}
+use mathlib.Core.Path.{refl}
 use mathlib.Core.Logic.{inl}
 use lib.Dec.{eqb}
 use Rattle.gear.specs.declared.answer.Outcome.{Outcome}
@@ -11,7 +10,7 @@ use Rattle.gear.specs.declared.command.StandardCommand.{StandardCommand}
 use Rattle.gear.specs.declared.command.StandardCommand.TheVariants.{Arc, GoToScene, Reset, IdentifyDevice, Config, EnableWriteMemory, Unknown}
 use Rattle.gear.specs.declared.record.Gear.{Gear}
 use Rattle.gear.specs.Command.{command_of}
-use Rattle.gear.specs.Profile.{fixed, floor}
+use Rattle.gear.specs.Profile.{fixed}
 use Rattle.gear.specs.Record.{fitb, reset_gear}
 use Rattle.gear.specs.Serve.{serve}
 use Rattle.gear.specs.Write.{scene, arc_write, recalled_levels, recall_scene, set_min, set_scene, remove_scene, set_power_on_level, set_system_failure_level, config_write, identify, enable_write, write, apply_standard_write, direct_arc_power}

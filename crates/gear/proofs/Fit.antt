@@ -1,10 +1,10 @@
 -- What a fit record says of its parts, and the other way round.
 use Prim.Native.Nat.{ℕ, ◌≤◌}
 use mathlib.Core.Path.{◌≡◌}
-use mathlib.Core.Bool.{Bool, true}
+use mathlib.Core.Bool.{true}
 use lib.Dec.{leb}
 use native.Mathlib.Omega.{arith}
-use borrow.Author.Tests.{le-leb, leb-true}
+use borrow.Author.Tests.{leb-true}
 use Rattle.gear.specs.declared.profile.Unit.{Unit}
 use Rattle.gear.specs.declared.record.Gear.{Gear}
 use Rattle.gear.specs.Marks.{walk_fit}
@@ -14,7 +14,7 @@ use Rattle.colour.specs.Record.{fitb as colour_fit}
 use Rattle.colour.proofs.Fit
 use Rattle.level.specs.Levels.{levels_fit}
 use Rattle.level.proofs.Fit as LevelFit
-use Rattle.numbers.specs.Numbers.{both, pick}
+use Rattle.numbers.specs.Numbers.{both}
 use Rattle.numbers.proofs.Logic.{by_cases, both_true, both_left, both_right, both_three}
 
 pub record GearFit (g : Gear) : Type 0 where

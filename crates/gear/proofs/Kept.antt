@@ -1,14 +1,13 @@
 -- Every write from a fit record gives a fit record.
 use Prim.Native.Nat.{ℕ}
 use mathlib.Core.Path.{◌≡◌, refl}
-use mathlib.Core.Bool.{Bool, true, false}
+use mathlib.Core.Bool.{true}
 use lib.Dec.{eqb}
 use Rattle.gear.specs.declared.command.ConfigCommand.{ConfigCommand}
 use Rattle.gear.specs.declared.command.ConfigCommand.TheVariants.{SetMaxLevel, SetMinLevel, SetSystemFailureLevel, SetPowerOnLevel, SetFadeTime, SetFadeRate, SetExtendedFadeTime, SetScene, RemoveScene, AddToGroup, RemoveFromGroup}
 use Rattle.gear.specs.declared.command.StandardCommand.{StandardCommand}
 use Rattle.gear.specs.declared.command.StandardCommand.TheVariants.{Arc, GoToScene, Reset, IdentifyDevice, Config, EnableWriteMemory, Unknown}
 use Rattle.gear.specs.declared.answer.Outcome.{Outcome}
-use Rattle.gear.specs.declared.profile.Profile.{Profile}
 use Rattle.gear.specs.declared.record.Gear.{Gear}
 use Rattle.gear.specs.Command.{command_of}
 use Rattle.gear.specs.Marks.{asked, configured, identified, enabled, walk_fit}
@@ -16,16 +15,14 @@ use Rattle.gear.specs.Profile.{floor, fixed}
 use Rattle.gear.specs.Record.{fitb, reset_gear}
 use Rattle.gear.specs.Serve.{serve}
 use Rattle.gear.specs.Settings.{store_level_setting}
-use Rattle.gear.specs.Write.{scene, arc_write, recalled_levels, recall_scene, set_min, set_scene, remove_scene, set_power_on_level, set_system_failure_level, config_write, identify, enable_write, write, apply_standard_write, direct_arc_power, keeps_identify}
+use Rattle.gear.specs.Write.{scene, arc_write, recalled_levels, recall_scene, set_min, set_scene, remove_scene, set_power_on_level, set_system_failure_level, config_write, identify, enable_write, write, apply_standard_write, direct_arc_power}
 use Rattle.gear.proofs.Fit.{GearFit, facts, fit, floor_low}
-use Rattle.colour.specs.Staging.{take_staged_colour}
 use Rattle.colour.proofs.Kept as ColourKept
 use Rattle.colour.proofs.KeptLimits as ColourLimits
 use Rattle.level.specs.declared.arc.ArcCommand.{ArcCommand}
 use Rattle.level.specs.declared.arc.ArcCommand.TheVariants.{DirectArcPower}
 use Rattle.level.specs.declared.levels.Levels.{Levels}
 use Rattle.level.proofs.Fit as LevelFit
-use Rattle.numbers.specs.Numbers.{pick}
 use Rattle.numbers.proofs.Logic.{by_cases}
 
 arc_kept : (g : Gear) (a : ArcCommand) → GearFit g → GearFit (arc_write g a)

@@ -1,7 +1,7 @@
 -- Membership in the first entries of a list.
 use Prim.Native.Nat.{ℕ, zero, suc, ◌≤◌, ◌<◌, ◌+◌}
-use mathlib.Core.Path.{◌≡◌, refl, ◌∙◌, sym, ap}
-use mathlib.Core.Bool.{Bool, true, false}
+use mathlib.Core.Path.{◌≡◌, sym}
+use mathlib.Core.Bool.{true, false}
 use mathlib.Core.List.{List, [], ◌∷◌, ◌++◌}
 use lib.Dec.{eqb}
 use lib.ListN.{length, take, get_or}
@@ -9,7 +9,6 @@ use lib.Seq.{take-suc}
 use native.Mathlib.Nat.{le_of_suc-le-suc, not-suc-le-zero}
 use native.Mathlib.Numerals.{add-one}
 use Rattle.gear.specs.Types.{member}
-use Rattle.numbers.specs.Numbers.{pick}
 use Rattle.numbers.proofs.Logic.{by_cases, no_false}
 
 -- a list that lacks the code, with one more entry, has it exactly where that entry is the code

@@ -1,12 +1,10 @@
 -- A write is refused exactly where document 01's table says: 2 for an unfit record, then 3 for a byte that is no write.
-use Prim.Native.Nat.{ℕ, ◌<◌, ◌*◌, ◌/◌}
-use mathlib.Core.Path.{◌≡◌, refl, sym, ◌∙◌, ap}
+use Prim.Native.Nat.{ℕ, ◌<◌}
+use mathlib.Core.Path.{◌≡◌, refl, sym, ◌∙◌}
 use mathlib.Core.Bool.{Bool, true, false, not}
-use mathlib.Core.List.{List}
-use lib.Dec.{T, eqb, leb, ltb}
-use lib.ListN.{length, replicate, length-replicate}
+use lib.Dec.{T, ltb}
+use lib.ListN.{replicate, length-replicate}
 use Rattle.gear.specs.declared.answer.Answer.TheVariants.{Done}
-use Rattle.gear.specs.declared.answer.Outcome.{Outcome}
 use Rattle.gear.specs.declared.answer.Refusal.TheVariants.{Unfit, Byte}
 use Rattle.gear.specs.declared.command.StandardCommand.{StandardCommand}
 use Rattle.gear.specs.declared.command.StandardCommand.TheVariants.{Arc, GoToScene, Reset, IdentifyDevice, Config, EnableWriteMemory, Unknown}
@@ -16,7 +14,7 @@ use Rattle.gear.specs.Command.{level_command, config_command, command_of}
 use Rattle.gear.specs.Record.{fitb}
 use Rattle.gear.specs.Serve.{serve}
 use Rattle.gear.specs.Write.{write, apply_standard_write}
-use Rattle.numbers.specs.Numbers.{both, pick}
+use Rattle.numbers.specs.Numbers.{pick}
 use Rattle.numbers.proofs.Logic.{no_false}
 use Rattle.numbers.proofs.Table.{at}
 

@@ -1,8 +1,8 @@
 -- What a gear remembers of the frames that it heard.
-use Rattle.std.specs.Prelude.{ℕ, Bool, true, false, leb}
+use Rattle.std.specs.Prelude.{Bool, true, false, leb}
 use Rattle.gear.specs.declared.marks.Marks.{Marks}
 use Rattle.gear.specs.declared.marks.Pair.{Pair}
-use Rattle.gear.specs.declared.marks.Pair.TheVariants.{Closed, Open}
+use Rattle.gear.specs.declared.marks.Pair.TheVariants.{Closed}
 use Rattle.gear.specs.declared.marks.Walk.{Walk}
 use Rattle.gear.specs.declared.marks.Walk.TheVariants.{Off, At}
 use Rattle.numbers.specs.Numbers.{both}

@@ -1,5 +1,5 @@
 -- Levels that are fit for a floor, in facts and as the test, and that every call keeps them so.
-use Prim.Native.Nat.{ℕ, ◌≤◌, ◌<◌, min}
+use Prim.Native.Nat.{ℕ, ◌≤◌, min}
 use mathlib.Core.Path.{◌≡◌}
 use mathlib.Core.Bool.{true}
 use lib.Dec.{eqb, leb, ltb}

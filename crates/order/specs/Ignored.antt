@@ -7,7 +7,6 @@ use Rattle.order.specs.Premises.{Listed, Ready}
 use Rattle.order.specs.Writes.{Write, call_of}
 use Rattle.demands.specs.Calls.{Behaviour, Call, perform}
 use Rattle.demands.specs.Impostors.{ignores}
-use Rattle.gear.specs.declared.answer.Outcome.{Outcome}
 use Rattle.gear.specs.declared.record.Gear.{Gear}
 
 -- demand 3 of calls that behave in some way

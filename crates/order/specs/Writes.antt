@@ -1,6 +1,5 @@
 -- The writes that document 01 gives keys to, and what each does: the rule of its call, to which the call is proved equal.
 use Rattle.std.specs.Prelude.{ℕ, ◌<◌, Bool, List, [], ◌∷◌}
-use Rattle.calls.specs.Colours.{activate_call, store_tc_limit_call, tc_step_call, xy_step_call}
 use Rattle.gear.specs.declared.answer.Answer.{Answer}
 use Rattle.demands.specs.Calls.{Call, perform as perform_call}
 use Rattle.gear.specs.declared.answer.Outcome.{Outcome}

@@ -1,7 +1,7 @@
 -- A query to a fit record gives a fit record, and changes nothing that writes change.
-use Prim.Native.Nat.{ℕ, ◌+◌, ◌/◌, ◌%◌, ◌≤◌, ◌<◌}
+use Prim.Native.Nat.{ℕ, ◌+◌, ◌/◌, ◌%◌, ◌≤◌}
 use mathlib.Core.Path.{◌≡◌, refl}
-use mathlib.Core.Bool.{Bool, true, false}
+use mathlib.Core.Bool.{true, false}
 use lib.Dec.{eqb, leb}
 use native.Mathlib.Omega.{arith}
 use borrow.Author.Tests.{le-leb, leb-false}
@@ -9,7 +9,6 @@ use Rattle.query.specs.Reply.{is_query, query, gear_query_reply, heard_query, re
 use Rattle.query.specs.Walk.{walking, device_type, next_at, next, next_device_type}
 use Rattle.colour.proofs.Fit as ColourFit
 use Rattle.colour.proofs.Kept as ColourKept
-use Rattle.gear.specs.declared.answer.Outcome.{Outcome}
 use Rattle.gear.specs.declared.marks.Walk.{Walk}
 use Rattle.gear.specs.declared.marks.Walk.TheVariants.{Off, At}
 use Rattle.gear.specs.declared.record.Gear.{Gear}
@@ -21,8 +20,6 @@ use Rattle.gear.specs.Serve.{serve}
 use Rattle.gear.specs.Write.{scene}
 use Rattle.gear.proofs.Fit.{GearFit, count_most}
 use Rattle.gear.proofs.Kept.{serve_kept}
-use Rattle.level.specs.declared.levels.Levels.{Levels}
-use Rattle.numbers.specs.Numbers.{pick}
 use Rattle.numbers.proofs.Logic.{by_cases}
 
 pub walking_kept : (g : Gear) (w : Walk) → walk_fit w ≡ true → GearFit g → GearFit (walking g w)

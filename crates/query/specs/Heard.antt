@@ -1,5 +1,5 @@
 -- What a query changes: the walk through the type list, and the colour report.
-use Rattle.std.specs.Prelude.{ℕ, ◌+◌, ◌/◌, Bool, true, false, eqb, leb}
+use Rattle.std.specs.Prelude.{ℕ, ◌+◌, ◌/◌, Bool, true, eqb, leb}
 use Rattle.query.specs.Reply.{is_query}
 use Rattle.colour.specs.declared.setting.ColourSetting.{ColourSetting}
 use Rattle.colour.specs.declared.tint.Tint.{Tint}

@@ -8,7 +8,7 @@ use Rattle.gear.specs.declared.condition.Faults.{Faults}
 use Rattle.gear.specs.declared.condition.Lamp.{Lamp}
 use Rattle.gear.specs.Profile.{is_type}
 use Rattle.level.specs.declared.levels.Levels.{Levels}
-use Rattle.numbers.specs.Numbers.{both, pick}
+use Rattle.numbers.specs.Numbers.{pick}
 
 -- bit 5, thermal shut-down, of a type 6 gear
 unfoldable pub thermal_shut_down : Unit → Faults → Bool

@@ -5,7 +5,6 @@ use Rattle.file.specs.declared.Verdict.TheVariants.{Good, Bad}
 use Rattle.file.specs.File.{checked}
 use Rattle.runner.specs.Run.{last_of}
 use Rattle.step.specs.Step.{step}
-use Rattle.gear.specs.declared.answer.Outcome.{Outcome}
 use Rattle.runner.specs.declared.ask.Asked.{Asked}
 use Rattle.runner.specs.declared.ask.Asked.TheVariants.{Told, Malformed}
 

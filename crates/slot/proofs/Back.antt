@@ -1,10 +1,10 @@
 -- The record comes back from its image.
-use Prim.Native.Nat.{ℕ, ◌+◌, ◌*◌, ◌/◌, ◌%◌, ◌≤◌}
-use mathlib.Core.Path.{◌≡◌, refl, ap, ◌∙◌}
-use mathlib.Core.Bool.{Bool, true}
+use Prim.Native.Nat.{ℕ, ◌+◌, ◌*◌, ◌/◌, ◌%◌}
+use mathlib.Core.Path.{◌≡◌, refl, ap}
+use mathlib.Core.Bool.{true}
 use mathlib.Core.List.{List, []}
-use lib.Dec.{eqb, leb, ltb}
-use lib.ListN.{length, replicate, take}
+use lib.Dec.{eqb, leb}
+use lib.ListN.{length, take}
 use borrow.Author.Tests.{leb-true, lt-ltb}
 use native.Mathlib.Omega.{arith}
 use Rattle.colour.specs.declared.setting.ColourSetting.{ColourSetting}

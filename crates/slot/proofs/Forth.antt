@@ -1,7 +1,7 @@
 -- Bytes that pass the test are the image of what they say.
 use Prim.Native.Nat.{ℕ, zero, suc, ◌+◌, ◌*◌, ◌/◌, ◌%◌, ◌≤◌, ◌<◌}
 use mathlib.Core.Path.{◌≡◌, refl, ap, ◌∙◌, sym}
-use mathlib.Core.Bool.{Bool, true, false}
+use mathlib.Core.Bool.{true}
 use mathlib.Core.List.{List, [], ◌∷◌, ◌++◌}
 use lib.Dec.{eqb, leb, ltb}
 use lib.ListN.{drop, get_or, length, replicate, take, get_or-replicate, length-drop, get_or-append, get_or-eq_default}
@@ -11,14 +11,13 @@ use native.Mathlib.Nat.{add-zero, add-suc, suc-add, suc-mul, add_comm}
 use native.Mathlib.Omega.{arith}
 use Rattle.colour.specs.declared.setting.ColourSetting.{ColourSetting}
 use Rattle.colour.specs.Tint.{colour_type_byte}
-use Rattle.gear.specs.declared.record.Gear.{Gear}
 use Rattle.gear.specs.Scene.{nowhere}
 use Rattle.gear.specs.Record.{fitb}
 use Rattle.numbers.proofs.Logic.{both_left, both_right, by_cases}
 use Rattle.numbers.specs.Numbers.{pick, both}
 use Rattle.slot.specs.Held.{Bytes, all_zero, at_most, canonical, heldb, is_kind, limits}
-use Rattle.slot.specs.Image.{flag_byte, image_of, open_flag, open_frame, put_all, put_banks, put_bytes, put_colour, put_colours, put_flags, put_front, put_marks, put_numbers, put_setting, put_settings, put_word, short_byte, typed, walk_byte}
-use Rattle.slot.specs.Record.{at, bytes_from, colour_in, flag_at, flags_from, gear_of, mode_of, pair_of, setting_in, settings_in, short_of, tint_of, walk_of, word_at}
+use Rattle.slot.specs.Image.{flag_byte, image_of, open_flag, open_frame, put_all, put_banks, put_bytes, put_colour, put_colours, put_flags, put_front, put_marks, put_numbers, put_setting, put_settings, short_byte, typed, walk_byte}
+use Rattle.slot.specs.Record.{at, bytes_from, colour_in, flag_at, flags_from, gear_of, mode_of, setting_in, settings_in, short_of, tint_of, walk_of, word_at}
 
 -- ## Bytes laid out one by one
 

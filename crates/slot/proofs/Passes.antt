@@ -4,10 +4,10 @@ use mathlib.Core.Path.{◌≡◌, refl, ap, ◌∙◌, sym}
 use mathlib.Core.Bool.{Bool, true, false}
 use mathlib.Core.List.{List, [], ◌∷◌, ◌++◌}
 use mathlib.Core.Logic.{◌↔◌}
-use lib.Dec.{eqb, leb, ltb}
+use lib.Dec.{eqb, leb}
 use lib.ListN.{drop, get_or, length, replicate, take}
 use lib.Seq.{get_or-drop, get_or-take}
-use borrow.Author.Tests.{eq-eqb, leb-true, le-leb}
+use borrow.Author.Tests.{leb-true, le-leb}
 use native.Mathlib.Omega.{arith}
 use Rattle.colour.specs.declared.tint.ColorMode.{ColorMode}
 use Rattle.colour.specs.declared.tint.ColorMode.TheVariants.{None, Cct, Xy, Rgb}
@@ -19,7 +19,6 @@ use Rattle.gear.specs.declared.marks.Walk.{Walk}
 use Rattle.gear.specs.declared.marks.Walk.TheVariants.{Off, At}
 use Rattle.gear.specs.declared.profile.Short.{Short}
 use Rattle.gear.specs.declared.profile.Short.TheVariants.{Missing, Address}
-use Rattle.gear.specs.declared.profile.Unit.{Unit}
 use Rattle.gear.specs.declared.record.Gear.{Gear}
 use Rattle.gear.specs.Marks.{walk_fit}
 use Rattle.gear.specs.Profile.{floor, is_type, short_fit, unit_fit}
@@ -28,10 +27,10 @@ use Rattle.gear.specs.Types.{has_type}
 use Rattle.level.specs.Levels.{levels_fit}
 use Rattle.numbers.proofs.Logic.{both_left, both_right, both_true}
 use Rattle.numbers.specs.Numbers.{both, pick}
-use Rattle.slot.proofs.Back.{gear_back, image_length}
+use Rattle.slot.proofs.Back.{gear_back}
 use Rattle.slot.proofs.Forth.{image_forth, is_fit}
 use Rattle.slot.proofs.Lists.{bytes_behind, bytes_cut}
-use Rattle.slot.specs.Held.{AllSix, Bytes, FitImage, Holds, Sound, all_zero, at_most, canonical, heldb, is_kind, limits}
+use Rattle.slot.specs.Held.{AllSix, Bytes, FitImage, Sound, all_zero, at_most, canonical, heldb, is_kind, limits}
 use Rattle.slot.specs.Image.{flag_byte, image_of, open_flag, open_frame, put_flags, short_byte, walk_byte}
 use Rattle.slot.specs.Record.{at, bytes_from, gear_of, listed, settings_in}
 

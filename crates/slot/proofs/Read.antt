@@ -1,6 +1,6 @@
 -- What is read in the bytes that hold a record is that record's.
 use Prim.Native.Nat.{ℕ}
-use mathlib.Core.Path.{◌≡◌, refl, ap, ◌∙◌}
+use mathlib.Core.Path.{◌≡◌, ap, ◌∙◌}
 use mathlib.Core.List.{List}
 use Rattle.gear.specs.declared.record.Gear.{Gear}
 use Rattle.slot.proofs.Back.{gear_back, image_length}

@@ -1,13 +1,10 @@
 -- One record as 512 bytes (docs/SLOT.md has the layout as a table). Each encoder puts its bytes in front of those that follow.
-use Rattle.std.specs.Prelude.{ℕ, zero, suc, ◌/◌, ◌%◌, Bool, false, List, [], ◌∷◌, drop, get_or, replicate, take}
+use Rattle.std.specs.Prelude.{ℕ, zero, suc, ◌/◌, ◌%◌, Bool, false, List, ◌∷◌, drop, get_or, replicate, take}
 use Rattle.bank.specs.declared.build.Banks.{Banks}
-use Rattle.colour.specs.declared.limits.Limits.{Limits}
 use Rattle.colour.specs.declared.record.Colour.{Colour}
 use Rattle.colour.specs.declared.setting.ColourSetting.{ColourSetting}
 use Rattle.colour.specs.declared.tint.Tint.{Tint}
 use Rattle.colour.specs.Tint.{colour_type_byte}
-use Rattle.gear.specs.declared.condition.Condition.{Condition}
-use Rattle.gear.specs.declared.marks.Marks.{Marks}
 use Rattle.gear.specs.declared.marks.Pair.{Pair}
 use Rattle.gear.specs.declared.marks.Pair.TheVariants.{Closed, Open}
 use Rattle.gear.specs.declared.marks.Walk.{Walk}

@@ -1,5 +1,5 @@
 -- What 512 bytes say, each at its place: the way back from an image to its record.
-use Rattle.std.specs.Prelude.{ℕ, zero, suc, ◌+◌, ◌*◌, Bool, true, false, List, [], ◌∷◌, eqb, ltb, drop, get_or, take}
+use Rattle.std.specs.Prelude.{ℕ, zero, suc, ◌+◌, ◌*◌, Bool, List, [], ◌∷◌, eqb, ltb, drop, get_or, take}
 use Rattle.bank.specs.declared.build.Banks.{Banks}
 use Rattle.colour.specs.declared.limits.Limits.{Limits}
 use Rattle.colour.specs.declared.record.Colour.{Colour}
@@ -9,8 +9,6 @@ use Rattle.colour.specs.declared.tint.ColorMode.TheVariants.{None, Cct, Xy, Rgb}
 use Rattle.colour.specs.declared.tint.Tint.{Tint}
 use Rattle.colour.specs.Limits.{range}
 use Rattle.gear.specs.declared.condition.Condition.{Condition}
-use Rattle.gear.specs.declared.condition.Faults.{Faults}
-use Rattle.gear.specs.declared.condition.Lamp.{Lamp}
 use Rattle.gear.specs.declared.marks.Marks.{Marks}
 use Rattle.gear.specs.declared.marks.Pair.{Pair}
 use Rattle.gear.specs.declared.marks.Pair.TheVariants.{Closed, Open}
@@ -20,7 +18,6 @@ use Rattle.gear.specs.declared.profile.Short.{Short}
 use Rattle.gear.specs.declared.profile.Short.TheVariants.{Missing, Address}
 use Rattle.gear.specs.declared.profile.Unit.{Unit}
 use Rattle.gear.specs.declared.record.Gear.{Gear}
-use Rattle.gear.specs.declared.settings.Fades.{Fades}
 use Rattle.gear.specs.declared.settings.LevelSetting.{LevelSetting}
 use Rattle.gear.specs.declared.settings.Settings.{Settings}
 use Rattle.level.specs.declared.levels.Levels.{Levels}

@@ -1,7 +1,7 @@
 -- What a step does to a fit record, by its kind: the call's rule without the fit test; and that the record stays fit.
-use Prim.Native.Nat.{ℕ, ◌+◌, ◌*◌, ◌≤◌, ◌<◌, ◌%◌}
+use Prim.Native.Nat.{ℕ, ◌<◌, ◌%◌}
 use mathlib.Core.Path.{◌≡◌, refl, sym, ◌∙◌, ap}
-use mathlib.Core.Bool.{Bool, true, false, not}
+use mathlib.Core.Bool.{true, false, not}
 use lib.Dec.{eqb}
 use native.Mathlib.Omega.{arith}
 use borrow.Author.Tests.{eqb-false, ne_eqb}
@@ -18,7 +18,6 @@ use Rattle.colour.specs.Staging.{copy_report, load_temporaries_from}
 use Rattle.colour.specs.Steps.{store_tc_limit, tc_step}
 use Rattle.colour.specs.Value.{color_value}
 use Rattle.gear.specs.Answer.{done, location_answer, refused, value_answer}
-use Rattle.gear.specs.declared.answer.Outcome.{Outcome}
 use Rattle.gear.specs.declared.answer.Refusal.TheVariants.{Byte}
 use Rattle.gear.specs.declared.command.StandardCommand.{StandardCommand}
 use Rattle.gear.specs.declared.record.Gear.{Gear}
@@ -27,7 +26,6 @@ use Rattle.gear.specs.Record.{fitb}
 use Rattle.gear.specs.Serve.{serve, tell}
 use Rattle.gear.specs.Write.{apply_standard_write, direct_arc_power, scene, write}
 use Rattle.gear.proofs.Kept.{arc_power_kept, standard_write_kept}
-use Rattle.numbers.specs.Numbers.{pick}
 use Rattle.numbers.proofs.Logic.{by_cases}
 use Rattle.query.specs.Heard.{reports, shown}
 use Rattle.query.specs.Reply.{gear_query_reply, query, reported}

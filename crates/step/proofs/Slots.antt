@@ -1,11 +1,10 @@
 -- The scene or group of a command is the low half of its byte, and below 16.
 use Prim.Native.Nat.{ℕ, ◌<◌, ◌%◌}
-use mathlib.Core.Path.{◌≡◌, refl, sym, ◌∙◌, ap, subst}
-use mathlib.Core.Bool.{Bool, true}
+use mathlib.Core.Path.{◌≡◌, refl}
+use mathlib.Core.Bool.{Bool}
 use mathlib.Core.List.{List}
-use lib.Dec.{T, eqb, eqb→eq, leb}
+use lib.Dec.{eqb, eqb→eq}
 use lib.ListN.{get_or, replicate, set}
-use native.Mathlib.Omega.{arith}
 use borrow.Author.Tests.{lt-leb}
 use Rattle.gear.specs.Command.{command_of, level_command, config_command}
 use Rattle.gear.specs.declared.command.ConfigCommand.{ConfigCommand}

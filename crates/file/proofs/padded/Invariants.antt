@@ -1,12 +1,8 @@
 -- `padded` meets its contract: the loop has stored i codes, and zeros are left behind them.
-use Prim.Native.Nat.{ℕ, suc, ◌+◌, ◌-◌, ◌≤◌, ◌<◌}
-use mathlib.Core.Path.{◌≡◌, refl, sym, ap, ◌∙◌}
-use mathlib.Core.List.{List, ◌++◌}
-use lib.ListN.{length, take, get_or, set, replicate, length-set}
-use lib.Seq.{take-suc, take-length, length-take-le, append_snoc, set_at}
-use native.Mathlib.Numerals.{add-one}
-use native.Mathlib.Omega.{arith}
-use Rattle.file.specs.Profile.{padded}
+use Prim.Native.Nat.{◌-◌, ◌≤◌}
+use mathlib.Core.Path.{◌≡◌}
+use mathlib.Core.List.{◌++◌}
+use lib.ListN.{length, take, replicate}
 use Rattle.file.proofs.padded.Given as goal
 
 abbrev pub invariant-loop-i : goal.invariant-loop-i

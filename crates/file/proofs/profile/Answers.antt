@@ -1,7 +1,7 @@
 -- `profile` meets its contract: a well-formed file has the profile's eleven bytes behind their count.
 use mathlib.Core.Path.{sym, ◌∙◌}
 use native.Mathlib.Nat.{add-sub_cancel_left}
-use Rattle.file.proofs.Shape.{Shape, shape}
+use Rattle.file.proofs.Shape.{shape}
 use Rattle.file.specs.File.{profile_of}
 use Rattle.std.proofs.Common.{rules}
 use Rattle.file.proofs.profile.Goals as goal

@@ -1,9 +1,9 @@
 -- `steps` meets its contract: the steps of a well-formed file go to its end.
 use Prim.Native.Nat.{◌+◌}
-use mathlib.Core.Path.{◌≡◌, sym, ap, ◌∙◌}
+use mathlib.Core.Path.{sym, ap, ◌∙◌}
 use native.Mathlib.Nat.{add-sub_cancel_left}
-use Rattle.file.proofs.Shape.{Shape, shape}
-use Rattle.file.specs.File.{word, profile_at, step_count, steps_of}
+use Rattle.file.proofs.Shape.{shape}
+use Rattle.file.specs.File.{word, steps_of}
 use Rattle.std.proofs.Common.{rules}
 use Rattle.file.proofs.steps.Goals as goal
 

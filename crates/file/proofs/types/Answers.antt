@@ -1,7 +1,7 @@
 -- `types` meets its contract: the type codes of a well-formed file lie behind its first byte.
 use mathlib.Core.Path.{sym, ◌∙◌}
 use native.Mathlib.Nat.{add-sub_cancel}
-use Rattle.file.proofs.Shape.{Shape, shape}
+use Rattle.file.proofs.Shape.{shape}
 use Rattle.file.specs.File.{types_of}
 use Rattle.std.proofs.Common.{rules}
 use Rattle.file.proofs.types.Goals as goal

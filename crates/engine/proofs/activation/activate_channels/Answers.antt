@@ -1,6 +1,5 @@
 -- `activation::activate_channels` meets its contract: the stores are those of the image.
 use lib.ListN.{length-set}
-use native.Mathlib.Omega.{arith}
 use mathlib.Core.Path.{refl}
 use Rattle.colour.specs.Activation.{activate, activated, strays}
 use Rattle.slot.specs.Image.{image_of}

@@ -1,9 +1,8 @@
 -- `stores::fill` meets its contract: the places passed have the value.
-use Prim.Native.Nat.{ℕ, ◌≤◌, ◌-◌, ◌+◌}
+use Prim.Native.Nat.{ℕ, ◌+◌}
 use mathlib.Core.Path.{◌≡◌, refl, ap, ◌∙◌}
 use mathlib.Core.List.{List}
-use lib.ListN.{length, length-set, replicate, set}
-use lib.Seq.{sets}
+use lib.ListN.{length-set, set}
 use native.Mathlib.Numerals.{add-one}
 use native.Mathlib.Omega.{arith}
 use Rattle.engine.proofs.Rows.{one_more}

@@ -1,12 +1,8 @@
 -- `stores::fill` meets its contract: the places passed have the value.
-use Prim.Native.Nat.{ℕ, ◌≤◌, ◌-◌, ◌+◌}
-use mathlib.Core.Path.{◌≡◌, refl, ap, ◌∙◌}
-use mathlib.Core.List.{List}
-use lib.ListN.{length, length-set, replicate, set}
+use Prim.Native.Nat.{◌≤◌, ◌-◌}
+use mathlib.Core.Path.{◌≡◌}
+use lib.ListN.{length, replicate}
 use lib.Seq.{sets}
-use native.Mathlib.Numerals.{add-one}
-use native.Mathlib.Omega.{arith}
-use Rattle.engine.proofs.Rows.{one_more}
 use Rattle.engine.proofs.stores.fill.Given as goal
 
 abbrev pub invariant-loop-i : goal.invariant-loop-i

@@ -1,9 +1,9 @@
 -- `stores::put_row` meets its contract: the bytes passed stand in the slot.
-use Prim.Native.Nat.{◌≤◌, ◌-◌, ◌+◌}
+use Prim.Native.Nat.{◌+◌}
 use mathlib.Core.List.{List}
-use mathlib.Core.Path.{◌≡◌, refl, ap, ◌∙◌}
+use mathlib.Core.Path.{refl, ap, ◌∙◌}
 use Prim.Native.Nat.{ℕ}
-use lib.ListN.{get_or, length, length-set, set, take}
+use lib.ListN.{get_or, length-set, set}
 use lib.Seq.{sets, take_all}
 use Rattle.std.proofs.Common.{rules}
 use native.Mathlib.Numerals.{add-one}

@@ -1,13 +1,8 @@
 -- `stores::put_row` meets its contract: the bytes passed stand in the slot.
-use Prim.Native.Nat.{◌≤◌, ◌-◌, ◌+◌}
-use mathlib.Core.List.{List}
-use mathlib.Core.Path.{◌≡◌, refl, ap, ◌∙◌}
-use Prim.Native.Nat.{ℕ}
-use lib.ListN.{get_or, length, length-set, set, take}
-use lib.Seq.{sets, take_all}
-use native.Mathlib.Numerals.{add-one}
-use native.Mathlib.Omega.{arith}
-use Rattle.engine.proofs.Rows.{row_more}
+use Prim.Native.Nat.{◌≤◌, ◌-◌}
+use mathlib.Core.Path.{◌≡◌}
+use lib.ListN.{length, take}
+use lib.Seq.{sets}
 use Rattle.engine.proofs.stores.put_row.Given as goal
 
 abbrev pub invariant-loop-i : goal.invariant-loop-i

@@ -2,7 +2,6 @@
 use mathlib.Core.Path.{refl}
 use lib.ListN.{length-set}
 use borrow.Author.Tests.{le-leb, lt-leb}
-use native.Mathlib.Omega.{arith}
 use Rattle.colour.specs.Setting.{mask}
 use Rattle.engine.proofs.Taking.{scene_put}
 use Rattle.gear.specs.Scene.{stored}

@@ -1,8 +1,6 @@
 -- `storing::set_scene` meets its contract: the level, and the colour where one is staged, of the entry at its place.
-use mathlib.Core.Path.{refl}
 use lib.ListN.{length-set}
 use borrow.Author.Tests.{le-leb, lt-leb}
-use native.Mathlib.Omega.{arith}
 use Rattle.colour.specs.Staging.{take_staged_colour}
 use Rattle.engine.proofs.Scenes.{level_held}
 use Rattle.engine.proofs.Taking.{scene_stored, staged_lit, staged_none}

@@ -1,6 +1,6 @@
 -- `ask::answer_after` meets its contract: the steps run on the record of the profile, and one more on what they leave.
 use native.Mathlib.Omega.{arith}
-use mathlib.Core.Path.{◌≡◌, ap, sym, ◌∙◌}
+use mathlib.Core.Path.{◌≡◌, ap, ◌∙◌}
 use lib.ListN.{length}
 use Rattle.gear.specs.declared.answer.Outcome.{Outcome}
 use Rattle.gear.specs.Record.{new_gear}

@@ -1,13 +1,11 @@
 -- `follow::follow` meets its contract: after k turns the record is that of k steps, it is fit, and the buffer has their lines, if any,
 -- and no more.
-use Prim.Native.Nat.{ℕ, suc, ◌≤◌, ◌-◌, ◌+◌, ◌*◌, ◌<◌, ◌%◌}
+use Prim.Native.Nat.{ℕ, suc, ◌≤◌, ◌+◌, ◌*◌, ◌<◌, ◌%◌}
 use mathlib.Core.Bool.{Bool, true, false}
 use mathlib.Core.List.{List, []}
 use mathlib.Core.Path.{◌≡◌, refl, sym, ◌∙◌, ap, ap₂}
-use lib.ListN.{length}
 use Rattle.std.proofs.Common.{rules}
 use native.Mathlib.Omega.{arith}
-use mathlib.Core.Logic.{⊎_elim}
 use lib.ListN.{get_or, set}
 use Rattle.bank.specs.declared.memory.Written.{Written}
 use Rattle.calls.specs.Power.{power_cycle}
@@ -30,7 +28,7 @@ use Rattle.gear.specs.declared.marks.Marks.{Marks}
 use Rattle.gear.specs.declared.record.Gear.{Gear}
 use Rattle.gear.specs.Write.{arc_write, config_write, enable_write, identify, recall_scene, recalled_levels, remove_scene, set_fades, set_power_on_level, set_scene, set_system_failure_level, write}
 use Rattle.level.specs.declared.levels.Levels.{Levels}
-use Rattle.step.specs.Step.{command_at, step, temperature}
+use Rattle.step.specs.Step.{temperature}
 use Rattle.runner.proofs.Running.{answer_more, line_room, line_more, state_more, told_none}
 use Rattle.step.proofs.OnFit.{at_write, at_query, at_read, at_stored, at_value, at_limit, at_tc_step, at_stage, at_activate, at_power_cycle, at_copy_report, at_features, at_none, report_left, report_told, step_kept}
 use Rattle.gear.specs.Marks.{asked}
@@ -40,7 +38,7 @@ use Rattle.gear.specs.declared.settings.LevelSetting.{LevelSetting}
 use Rattle.gear.specs.Scene.{nowhere, stored}
 use Rattle.gear.specs.Settings.{level_setting, store_level_setting, with_failure, with_groups, with_on}
 use Rattle.numbers.specs.Numbers.{pick}
-use Rattle.runner.specs.Line.{Wrote, line_text}
+use Rattle.runner.specs.Line.{Wrote}
 use Rattle.runner.specs.Run.{answer_after, performed, state_after, text_after}
 use Rattle.runner.proofs.follow.follow.Goals as goal
 use Rattle.runner.proofs.follow.follow.Goals.{Joined-kind, in-2+then-reports, in-2+else-reports, in-3, in-4, in-5, in-6, in-7, in-8, in-9, in-10, in-11, in-12, in-0+in-Arc, in-0+in-GoToScene, in-0+in-Config+in-SetMaxLevel, in-0+in-Config+in-SetMinLevel, in-0+in-Config+in-SetSystemFailureLevel, in-0+in-Config+in-SetPowerOnLevel, in-0+in-Config+in-SetFadeTime, in-0+in-Config+in-SetFadeRate, in-0+in-Config+in-SetExtendedFadeTime, in-0+in-Config+in-SetScene, in-0+in-Config+in-RemoveScene, in-0+in-Config+in-AddToGroup, in-0+in-Config+in-RemoveFromGroup, in-0+in-Reset, in-0+in-IdentifyDevice, in-0+in-EnableWriteMemory, in-0+in-Unknown, in_default}
@@ -85,113 +83,113 @@ met c =
     let low : a % 16 < 16 = omega arith in
     let a_byte : a < 256 = omega (arith, c.type_inv.steps (i + 1)) in
     elim c.match-kind.branch [
-        in-2+then-reports w ↦
-        let scene = ap (λ (x : LevelSetting). shown g.colour.active g.settings.on.colour g.settings.failure.colour x.colour a) (scene_at_lem refl low g.scenes) in
-        let report = ap (report_from g.colour) (w.shown-setting.ensures ∙ scene) ∙ report_told g a (sym w.reports.ensures ∙ w.if-reports.true) in
-        meets (at_query g f a b d w.in-2.is)
-        (w.state-is ∙ light g refl w.walked-state.ensures (w.load_report_from-state.ensures ∙ report) ∙ sym (query_walks g a))
-        (w.answer-is ∙ w.told-answer.ensures ∙ telling g a low)
+      | in-2+then-reports w ↦
+          let scene = ap (λ (x : LevelSetting). shown g.colour.active g.settings.on.colour g.settings.failure.colour x.colour a) (scene_at_lem refl low g.scenes) in
+          let report = ap (report_from g.colour) (w.shown-setting.ensures ∙ scene) ∙ report_told g a (sym w.reports.ensures ∙ w.if-reports.true) in
+          meets (at_query g f a b d w.in-2.is)
+          (w.state-is ∙ light g refl w.walked-state.ensures (w.load_report_from-state.ensures ∙ report) ∙ sym (query_walks g a))
+          (w.answer-is ∙ w.told-answer.ensures ∙ telling g a low)
       | in-2+else-reports w ↦
-        meets (at_query g f a b d w.in-2.is)
-        (w.state-is ∙ light g refl w.walked-state.ensures (report_left g a (sym w.reports.ensures ∙ w.if-reports.false)) ∙ sym (query_walks g a))
-        (w.answer-is ∙ w.told-answer.ensures ∙ telling g a low)
+          meets (at_query g f a b d w.in-2.is)
+          (w.state-is ∙ light g refl w.walked-state.ensures (report_left g a (sym w.reports.ensures ∙ w.if-reports.false)) ∙ sym (query_walks g a))
+          (w.answer-is ∙ w.told-answer.ensures ∙ telling g a low)
       | in-3 w ↦
-        meets (at_read g f a b d w.in-3.is) w.state-is (w.answer-is ∙ w.location_answer-answer.ensures ∙ ap location_answer w.memory_location.ensures)
+          meets (at_read g f a b d w.in-3.is) w.state-is (w.answer-is ∙ w.location_answer-answer.ensures ∙ ap location_answer w.memory_location.ensures)
       | in-4 w ↦
-        meets (at_stored g f a b d w.in-4.is) (w.state-is ∙ ap (λ (x : Written). with_banks g x.banks) w.write_memory_location-written.ensures)
-        (w.answer-is ∙ w.location_answer-answer-in-4.ensures ∙ ap (λ (x : Written). location_answer x.answer) w.write_memory_location-written.ensures)
+          meets (at_stored g f a b d w.in-4.is) (w.state-is ∙ ap (λ (x : Written). with_banks g x.banks) w.write_memory_location-written.ensures)
+          (w.answer-is ∙ w.location_answer-answer-in-4.ensures ∙ ap (λ (x : Written). location_answer x.answer) w.write_memory_location-written.ensures)
       | in-5 w ↦
-        meets (at_value g f a b d w.in-5.is) w.state-is (w.answer-is ∙ w.value_answer-answer.ensures ∙ ap value_answer w.color_value.ensures)
+          meets (at_value g f a b d w.in-5.is) w.state-is (w.answer-is ∙ w.value_answer-answer.ensures ∙ ap value_answer w.color_value.ensures)
       | in-6 w ↦
-        meets (at_limit g f a b d w.in-6.is)
-        (w.state-is ∙ ap (with_colour g) (w.store_tc_limit-state.ensures ∙ ap (λ (v : ℕ). store_tc_limit g.colour v a) w.pair.ensures)) w.answer-is
+          meets (at_limit g f a b d w.in-6.is)
+          (w.state-is ∙ ap (with_colour g) (w.store_tc_limit-state.ensures ∙ ap (λ (v : ℕ). store_tc_limit g.colour v a) w.pair.ensures)) w.answer-is
       | in-7 w ↦
-        meets (at_tc_step g f a b d w.in-7.is) (w.state-is ∙ ap (with_colour g) w.tc_step-state.ensures) w.answer-is
+          meets (at_tc_step g f a b d w.in-7.is) (w.state-is ∙ ap (with_colour g) w.tc_step-state.ensures) w.answer-is
       | in-8 w ↦
-        meets (at_stage g f a b d w.in-8.is)
-        (w.state-is ∙
-        ap (with_colour g)
-        (w.load_temporaries_from-state.ensures ∙ ap (load_temporaries_from g.colour) (w.temperature.ensures ∙ ap temperature w.pair-in-8.ensures))) w.answer-is
+          meets (at_stage g f a b d w.in-8.is)
+          (w.state-is ∙
+          ap (with_colour g)
+          (w.load_temporaries_from-state.ensures ∙ ap (load_temporaries_from g.colour) (w.temperature.ensures ∙ ap temperature w.pair-in-8.ensures))) w.answer-is
       | in-9 w ↦
-        meets (at_activate g f a b d w.in-9.is) (w.state-is ∙ ap (with_colour g) w.activate_pending_color-state.ensures) w.answer-is
+          meets (at_activate g f a b d w.in-9.is) (w.state-is ∙ ap (with_colour g) w.activate_pending_color-state.ensures) w.answer-is
       | in-10 w ↦
-        meets (at_power_cycle g f a b d w.in-10.is)
-        (w.state-is ∙ light g w.power_up-state.ensures w.power_up-state-in-10.ensures w.power_up-state-in-10-2.ensures) w.answer-is
+          meets (at_power_cycle g f a b d w.in-10.is)
+          (w.state-is ∙ light g w.power_up-state.ensures w.power_up-state-in-10.ensures w.power_up-state-in-10-2.ensures) w.answer-is
       | in-11 w ↦
-        meets (at_copy_report g f a b d w.in-11.is) (w.state-is ∙ ap (with_colour g) w.copy_report_to_temporary-state.ensures) w.answer-is
+          meets (at_copy_report g f a b d w.in-11.is) (w.state-is ∙ ap (with_colour g) w.copy_report_to_temporary-state.ensures) w.answer-is
       | in-12 w ↦
-        meets (at_features g f a b d w.in-12.is) w.state-is w.answer-is
+          meets (at_features g f a b d w.in-12.is) w.state-is w.answer-is
       | in-0+in-Arc w ↦
-        meets (at_write g f a b d w.in-0.if-kind-lt2-own.true w.command_at-command.ensures w.in-Arc.is)
-        (w.state-is ∙ light g w.apply_arc-state.ensures (w.asked-state.ensures ∙ ap (asked g.marks) w.keeps_identify.ensures) w.arc_power_activation-state.ensures) w.answer-is
+          meets (at_write g f a b d w.in-0.if-kind-lt2-own.true w.command_at-command.ensures w.in-Arc.is)
+          (w.state-is ∙ light g w.apply_arc-state.ensures (w.asked-state.ensures ∙ ap (asked g.marks) w.keeps_identify.ensures) w.arc_power_activation-state.ensures) w.answer-is
       | in-0+in-GoToScene w ↦
-        let is = slot _ a a_byte (sym w.in-GoToScene.is ∙ w.command_at-command.ensures) in
-        meets (at_write g f a b d w.in-0.if-kind-lt2-own.true w.command_at-command.ensures w.in-GoToScene.is)
-        (w.state-is ∙
-        light g (w.recalled_levels-state.ensures ∙ ap (λ (x : LevelSetting). recalled_levels g.levels x.level) (scene_at_lem is low g.scenes)) w.asked-state-in-GoToScene.ensures
-        (w.recall-state.ensures ∙ ap (λ (x : LevelSetting). recall g.colour x.colour) (scene_at_lem is low g.scenes))) w.answer-is
+          let is = slot _ a a_byte (sym w.in-GoToScene.is ∙ w.command_at-command.ensures) in
+          meets (at_write g f a b d w.in-0.if-kind-lt2-own.true w.command_at-command.ensures w.in-GoToScene.is)
+          (w.state-is ∙
+          light g (w.recalled_levels-state.ensures ∙ ap (λ (x : LevelSetting). recalled_levels g.levels x.level) (scene_at_lem is low g.scenes)) w.asked-state-in-GoToScene.ensures
+          (w.recall-state.ensures ∙ ap (λ (x : LevelSetting). recall g.colour x.colour) (scene_at_lem is low g.scenes))) w.answer-is
       | in-0+in-Config+in-SetMaxLevel w ↦
-        meets (at_write g f a b d w.in-0.if-kind-lt2-own.true w.command_at-command.ensures (w.in-Config.is ∙ ap Config w.in-SetMaxLevel.is))
-        (w.state-is ∙ light g w.set_max_level-state.ensures w.configured-state.ensures refl) w.answer-is
+          meets (at_write g f a b d w.in-0.if-kind-lt2-own.true w.command_at-command.ensures (w.in-Config.is ∙ ap Config w.in-SetMaxLevel.is))
+          (w.state-is ∙ light g w.set_max_level-state.ensures w.configured-state.ensures refl) w.answer-is
       | in-0+in-Config+in-SetMinLevel w ↦
-        meets (at_write g f a b d w.in-0.if-kind-lt2-own.true w.command_at-command.ensures (w.in-Config.is ∙ ap Config w.in-SetMinLevel.is))
-        (w.state-is ∙ light g w.set_min-state.ensures w.configured-state.ensures refl) w.answer-is
+          meets (at_write g f a b d w.in-0.if-kind-lt2-own.true w.command_at-command.ensures (w.in-Config.is ∙ ap Config w.in-SetMinLevel.is))
+          (w.state-is ∙ light g w.set_min-state.ensures w.configured-state.ensures refl) w.answer-is
       | in-0+in-Config+in-SetSystemFailureLevel w ↦
-        meets (at_write g f a b d w.in-0.if-kind-lt2-own.true w.command_at-command.ensures (w.in-Config.is ∙ ap Config w.in-SetSystemFailureLevel.is))
-        (w.state-is ∙
-        ap₂ (λ (m : Marks) (t : Taken). with_settings (with_marks g m) (with_failure g.settings (level_setting b t.setting)) t.colour)
-        w.configured-state.ensures w.take_staged_colour-taken.ensures) w.answer-is
+          meets (at_write g f a b d w.in-0.if-kind-lt2-own.true w.command_at-command.ensures (w.in-Config.is ∙ ap Config w.in-SetSystemFailureLevel.is))
+          (w.state-is ∙
+          ap₂ (λ (m : Marks) (t : Taken). with_settings (with_marks g m) (with_failure g.settings (level_setting b t.setting)) t.colour)
+          w.configured-state.ensures w.take_staged_colour-taken.ensures) w.answer-is
       | in-0+in-Config+in-SetPowerOnLevel w ↦
-        meets (at_write g f a b d w.in-0.if-kind-lt2-own.true w.command_at-command.ensures (w.in-Config.is ∙ ap Config w.in-SetPowerOnLevel.is))
-        (w.state-is ∙
-        ap₂ (λ (m : Marks) (t : Taken). with_settings (with_marks g m) (with_on g.settings (level_setting b t.setting)) t.colour)
-        w.configured-state.ensures w.take_staged_colour-taken-in-SetPowerOnLevel.ensures) w.answer-is
+          meets (at_write g f a b d w.in-0.if-kind-lt2-own.true w.command_at-command.ensures (w.in-Config.is ∙ ap Config w.in-SetPowerOnLevel.is))
+          (w.state-is ∙
+          ap₂ (λ (m : Marks) (t : Taken). with_settings (with_marks g m) (with_on g.settings (level_setting b t.setting)) t.colour)
+          w.configured-state.ensures w.take_staged_colour-taken-in-SetPowerOnLevel.ensures) w.answer-is
       | in-0+in-Config+in-SetFadeTime w ↦
-        meets (at_write g f a b d w.in-0.if-kind-lt2-own.true w.command_at-command.ensures (w.in-Config.is ∙ ap Config w.in-SetFadeTime.is))
-        (w.state-is ∙ ap (λ (m : Marks). set_fades (with_marks g m) b g.settings.fades.rate g.settings.fades.extended) w.configured-state.ensures) w.answer-is
+          meets (at_write g f a b d w.in-0.if-kind-lt2-own.true w.command_at-command.ensures (w.in-Config.is ∙ ap Config w.in-SetFadeTime.is))
+          (w.state-is ∙ ap (λ (m : Marks). set_fades (with_marks g m) b g.settings.fades.rate g.settings.fades.extended) w.configured-state.ensures) w.answer-is
       | in-0+in-Config+in-SetFadeRate w ↦
-        meets (at_write g f a b d w.in-0.if-kind-lt2-own.true w.command_at-command.ensures (w.in-Config.is ∙ ap Config w.in-SetFadeRate.is))
-        (w.state-is ∙ ap (λ (m : Marks). set_fades (with_marks g m) g.settings.fades.time b g.settings.fades.extended) w.configured-state.ensures) w.answer-is
+          meets (at_write g f a b d w.in-0.if-kind-lt2-own.true w.command_at-command.ensures (w.in-Config.is ∙ ap Config w.in-SetFadeRate.is))
+          (w.state-is ∙ ap (λ (m : Marks). set_fades (with_marks g m) g.settings.fades.time b g.settings.fades.extended) w.configured-state.ensures) w.answer-is
       | in-0+in-Config+in-SetExtendedFadeTime w ↦
-        meets (at_write g f a b d w.in-0.if-kind-lt2-own.true w.command_at-command.ensures (w.in-Config.is ∙ ap Config w.in-SetExtendedFadeTime.is))
-        (w.state-is ∙ ap₂ (λ (m : Marks) (t : ℕ). set_fades (with_marks g m) g.settings.fades.time g.settings.fades.rate t) w.configured-state.ensures w.extended_fade-extended.ensures) w.answer-is
+          meets (at_write g f a b d w.in-0.if-kind-lt2-own.true w.command_at-command.ensures (w.in-Config.is ∙ ap Config w.in-SetExtendedFadeTime.is))
+          (w.state-is ∙ ap₂ (λ (m : Marks) (t : ℕ). set_fades (with_marks g m) g.settings.fades.time g.settings.fades.rate t) w.configured-state.ensures w.extended_fade-extended.ensures) w.answer-is
       | in-0+in-Config+in-SetScene w ↦
-        let command = w.in-Config.is ∙ ap Config w.in-SetScene.is in
-        let is = slot _ a a_byte (sym command ∙ w.command_at-command.ensures) in
-        let taken = w.take_staged_colour-taken-in-SetScene.ensures ∙ ap (λ (x : LevelSetting). take_staged_colour g.colour x.colour) (scene_at_lem is low g.scenes) in
-        meets (at_write g f a b d w.in-0.if-kind-lt2-own.true w.command_at-command.ensures command)
-        (w.state-is ∙
-        scene_put is low g w.configured-state.ensures (ap (λ (t : Taken). level_setting b t.setting) taken) (ap (λ (t : Taken). t.colour) taken)) w.answer-is
+          let command = w.in-Config.is ∙ ap Config w.in-SetScene.is in
+          let is = slot _ a a_byte (sym command ∙ w.command_at-command.ensures) in
+          let taken = w.take_staged_colour-taken-in-SetScene.ensures ∙ ap (λ (x : LevelSetting). take_staged_colour g.colour x.colour) (scene_at_lem is low g.scenes) in
+          meets (at_write g f a b d w.in-0.if-kind-lt2-own.true w.command_at-command.ensures command)
+          (w.state-is ∙
+          scene_put is low g w.configured-state.ensures (ap (λ (t : Taken). level_setting b t.setting) taken) (ap (λ (t : Taken). t.colour) taken)) w.answer-is
       | in-0+in-Config+in-RemoveScene w ↦
-        let command = w.in-Config.is ∙ ap Config w.in-RemoveScene.is in
-        let is = slot _ a a_byte (sym command ∙ w.command_at-command.ensures) in
-        meets (at_write g f a b d w.in-0.if-kind-lt2-own.true w.command_at-command.ensures command)
-        (w.state-is ∙ scene_put is low g w.configured-state.ensures w.unset-none.ensures refl) w.answer-is
+          let command = w.in-Config.is ∙ ap Config w.in-RemoveScene.is in
+          let is = slot _ a a_byte (sym command ∙ w.command_at-command.ensures) in
+          meets (at_write g f a b d w.in-0.if-kind-lt2-own.true w.command_at-command.ensures command)
+          (w.state-is ∙ scene_put is low g w.configured-state.ensures w.unset-none.ensures refl) w.answer-is
       | in-0+in-Config+in-AddToGroup w ↦
-        let command = w.in-Config.is ∙ ap Config w.in-AddToGroup.is in
-        let is = slot _ a a_byte (sym command ∙ w.command_at-command.ensures) in
-        meets (at_write g f a b d w.in-0.if-kind-lt2-own.true w.command_at-command.ensures command)
-        (w.state-is ∙ ap₂ (λ (m : Marks) (x : List Bool). with_settings (with_marks g m) (with_groups g.settings x) g.colour) w.configured-state.ensures (stored_at is low g.settings.groups true)) w.answer-is
+          let command = w.in-Config.is ∙ ap Config w.in-AddToGroup.is in
+          let is = slot _ a a_byte (sym command ∙ w.command_at-command.ensures) in
+          meets (at_write g f a b d w.in-0.if-kind-lt2-own.true w.command_at-command.ensures command)
+          (w.state-is ∙ ap₂ (λ (m : Marks) (x : List Bool). with_settings (with_marks g m) (with_groups g.settings x) g.colour) w.configured-state.ensures (stored_at is low g.settings.groups true)) w.answer-is
       | in-0+in-Config+in-RemoveFromGroup w ↦
-        let command = w.in-Config.is ∙ ap Config w.in-RemoveFromGroup.is in
-        let is = slot _ a a_byte (sym command ∙ w.command_at-command.ensures) in
-        meets (at_write g f a b d w.in-0.if-kind-lt2-own.true w.command_at-command.ensures command)
-        (w.state-is ∙ ap₂ (λ (m : Marks) (x : List Bool). with_settings (with_marks g m) (with_groups g.settings x) g.colour) w.configured-state.ensures (stored_at is low g.settings.groups false)) w.answer-is
+          let command = w.in-Config.is ∙ ap Config w.in-RemoveFromGroup.is in
+          let is = slot _ a a_byte (sym command ∙ w.command_at-command.ensures) in
+          meets (at_write g f a b d w.in-0.if-kind-lt2-own.true w.command_at-command.ensures command)
+          (w.state-is ∙ ap₂ (λ (m : Marks) (x : List Bool). with_settings (with_marks g m) (with_groups g.settings x) g.colour) w.configured-state.ensures (stored_at is low g.settings.groups false)) w.answer-is
       | in-0+in-Reset w ↦
-        meets (at_write g f a b d w.in-0.if-kind-lt2-own.true w.command_at-command.ensures w.in-Reset.is) (w.state-is ∙ w.reset_gear-state.ensures) w.answer-is
+          meets (at_write g f a b d w.in-0.if-kind-lt2-own.true w.command_at-command.ensures w.in-Reset.is) (w.state-is ∙ w.reset_gear-state.ensures) w.answer-is
       | in-0+in-IdentifyDevice w ↦
-        meets (at_write g f a b d w.in-0.if-kind-lt2-own.true w.command_at-command.ensures w.in-IdentifyDevice.is) (w.state-is ∙ ap (with_marks g) w.identified-state.ensures) w.answer-is
+          meets (at_write g f a b d w.in-0.if-kind-lt2-own.true w.command_at-command.ensures w.in-IdentifyDevice.is) (w.state-is ∙ ap (with_marks g) w.identified-state.ensures) w.answer-is
       | in-0+in-EnableWriteMemory w ↦
-        meets (at_write g f a b d w.in-0.if-kind-lt2-own.true w.command_at-command.ensures w.in-EnableWriteMemory.is) (w.state-is ∙ ap (with_marks g) w.enabled-state.ensures) w.answer-is
+          meets (at_write g f a b d w.in-0.if-kind-lt2-own.true w.command_at-command.ensures w.in-EnableWriteMemory.is) (w.state-is ∙ ap (with_marks g) w.enabled-state.ensures) w.answer-is
       | in-0+in-Unknown w ↦
-        meets (at_write g f a b d w.in-0.if-kind-lt2-own.true w.command_at-command.ensures w.in-Unknown.is) w.state-is w.answer-is
+          meets (at_write g f a b d w.in-0.if-kind-lt2-own.true w.command_at-command.ensures w.in-Unknown.is) w.state-is w.answer-is
       | in_default w ↦
-        let r = w.in_default.in_default-own.rest in
-        meets
-        (at_none g f a b d
-        (past (past (past (past (past (past (past (past (past (past (past w.in_default.if-kind-lt2-own.false r.0.0.0.0.0.0.0.0.0.0.1)
-        r.0.0.0.0.0.0.0.0.0.1) r.0.0.0.0.0.0.0.0.1) r.0.0.0.0.0.0.0.1) r.0.0.0.0.0.0.1)
-        r.0.0.0.0.0.1) r.0.0.0.0.1) r.0.0.0.1) r.0.0.1) r.0.1) r.1)) w.state-is w.answer-is
+          let r = w.in_default.in_default-own.rest in
+          meets
+          (at_none g f a b d
+          (past (past (past (past (past (past (past (past (past (past (past w.in_default.if-kind-lt2-own.false r.0.0.0.0.0.0.0.0.0.0.1)
+          r.0.0.0.0.0.0.0.0.0.1) r.0.0.0.0.0.0.0.0.1) r.0.0.0.0.0.0.0.1) r.0.0.0.0.0.0.1)
+          r.0.0.0.0.0.1) r.0.0.0.0.1) r.0.0.0.1) r.0.0.1) r.0.1) r.1)) w.state-is w.answer-is
     ]
 
 kept : (c : Joined-kind) → fitb c.match-kind.state ≡ true

@@ -3,7 +3,6 @@ use native.Mathlib.Omega.{arith}
 use mathlib.Core.Path.{◌≡◌, ap, ◌∙◌}
 use lib.ListN.{length}
 use Rattle.gear.specs.declared.answer.Outcome.{Outcome}
-use Rattle.gear.specs.declared.profile.Profile.{Profile}
 use Rattle.gear.specs.Record.{new_gear}
 use Rattle.runner.specs.Run.{first_of}
 use Rattle.runner.proofs.First.{good_fit}

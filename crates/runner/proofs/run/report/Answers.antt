@@ -1,11 +1,7 @@
 -- `run::report` meets its contract: the text is that of the verdict, and the room is enough for either.
 use native.Mathlib.Omega.{arith}
-use mathlib.Core.Path.{◌≡◌, ap, sym, ◌∙◌}
-use Rattle.file.specs.declared.Verdict.{Verdict}
-use Rattle.file.specs.declared.Verdict.TheVariants.{Good, Bad}
-use Rattle.file.specs.File.{checked}
+use mathlib.Core.Path.{ap, sym, ◌∙◌}
 use Rattle.runner.specs.Run.{printed_as}
-use Rattle.runner.specs.Line.{bad_text}
 use Rattle.runner.proofs.Lines.{bad_length}
 use Rattle.file.proofs.Offset.{offset_within}
 use Rattle.runner.proofs.Whole.{room_is, reported_all, reported_none}

@@ -1,9 +1,6 @@
 -- `run::run` meets its contract: the verdict decides, and a well-formed file is run as it is reported.
 use native.Mathlib.Omega.{arith}
-use mathlib.Core.Path.{◌≡◌, ap, sym, ◌∙◌}
-use Rattle.file.specs.declared.Verdict.{Verdict}
-use Rattle.file.specs.declared.Verdict.TheVariants.{Good, Bad}
-use Rattle.file.specs.File.{checked}
+use mathlib.Core.Path.{ap, sym, ◌∙◌}
 use Rattle.runner.specs.Run.{printed_as}
 use Rattle.runner.proofs.Whole.{reported_all, reported_none, served_good, served_bad}
 use Rattle.runner.proofs.run.run.Goals as goal

@@ -1,7 +1,5 @@
 use mathlib.Core.Path.{sym}
 use lib.ListN.{get_or-eq_default}
-use Rattle.slot.proofs.bytes.byte.Reads as reads
-use Rattle.slot.proofs.bytes.byte.Lts as lts
 use Rattle.slot.proofs.bytes.byte.Goals as goal
 
 -- src/bytes.rt:9:1

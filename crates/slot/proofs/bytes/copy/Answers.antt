@@ -1,13 +1,11 @@
 -- `bytes::copy` meets its contract: the bytes passed are those of the part.
-use Prim.Native.Nat.{◌≤◌, ◌-◌, ◌+◌, suc}
 use mathlib.Core.Path.{◌≡◌, refl, sym, ◌∙◌}
-use lib.ListN.{length, length-set, take}
+use lib.ListN.{length, length-set}
 use lib.Seq.{take_all, take-suc-set}
 use Rattle.std.proofs.Common.{rules}
 use native.Mathlib.Numerals.{add-one}
 use native.Mathlib.Omega.{arith}
 use Rattle.slot.proofs.Lists.{bytes_more}
-use Rattle.slot.specs.Record.{bytes_from}
 use Rattle.slot.proofs.bytes.copy.Goals as goal
 
 pub loop-i-init : goal.loop-i-init

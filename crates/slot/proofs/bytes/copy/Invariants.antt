@@ -1,11 +1,7 @@
 -- `bytes::copy` meets its contract: the bytes passed are those of the part.
-use Prim.Native.Nat.{◌≤◌, ◌-◌, ◌+◌, suc}
-use mathlib.Core.Path.{◌≡◌, refl, sym, ◌∙◌}
-use lib.ListN.{length, length-set, take}
-use lib.Seq.{take_all, take-suc-set}
-use native.Mathlib.Numerals.{add-one}
-use native.Mathlib.Omega.{arith}
-use Rattle.slot.proofs.Lists.{bytes_more}
+use Prim.Native.Nat.{◌≤◌, ◌-◌}
+use mathlib.Core.Path.{◌≡◌}
+use lib.ListN.{length, take}
 use Rattle.slot.specs.Record.{bytes_from}
 use Rattle.slot.proofs.bytes.copy.Given as goal
 

@@ -2,8 +2,7 @@
 use Prim.Native.Nat.{ℕ}
 use mathlib.Core.Path.{◌≡◌, ap, sym, ◌∙◌}
 use mathlib.Core.List.{List, ◌++◌}
-use lib.ListN.{drop, length, length-drop, length-take}
-use native.Mathlib.Omega.{arith}
+use lib.ListN.{drop, length}
 use Rattle.slot.proofs.Puts.{bytes_whole, put_behind}
 use Rattle.slot.specs.Image.{put_bytes}
 use Rattle.std.proofs.Common.{rules}

@@ -1,8 +1,6 @@
 -- `image::put_bytes` meets its contract: the bytes passed are copied, those behind them are as they were.
-use Prim.Native.Nat.{◌≤◌, ◌-◌}
 use mathlib.Core.Path.{◌≡◌, refl, ◌∙◌}
-use mathlib.Core.List.{◌++◌}
-use lib.ListN.{drop, length, length-set, take}
+use lib.ListN.{length, length-set}
 use lib.Seq.{paste-suc, take-length}
 use Rattle.std.proofs.Common.{rules}
 use native.Mathlib.Nat.{zero-add}

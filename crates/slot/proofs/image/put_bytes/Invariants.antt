@@ -1,12 +1,8 @@
 -- `image::put_bytes` meets its contract: the bytes passed are copied, those behind them are as they were.
 use Prim.Native.Nat.{◌≤◌, ◌-◌}
-use mathlib.Core.Path.{◌≡◌, refl, ◌∙◌}
+use mathlib.Core.Path.{◌≡◌}
 use mathlib.Core.List.{◌++◌}
-use lib.ListN.{drop, length, length-set, take}
-use lib.Seq.{paste-suc, take-length}
-use native.Mathlib.Nat.{zero-add}
-use native.Mathlib.Numerals.{add-one}
-use native.Mathlib.Omega.{arith}
+use lib.ListN.{drop, length, take}
 use Rattle.slot.proofs.image.put_bytes.Given as goal
 
 abbrev pub invariant-loop-i : goal.invariant-loop-i

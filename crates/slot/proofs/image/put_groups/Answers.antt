@@ -1,14 +1,12 @@
 -- `image::put_groups` meets its contract: the flags passed are put, those behind are as they were.
-use Prim.Native.Nat.{◌≤◌, ◌-◌, ◌*◌}
 use mathlib.Core.Path.{◌≡◌, refl, ◌∙◌}
 use mathlib.Core.Bool.{false}
 use mathlib.Core.List.{◌∷◌}
-use lib.ListN.{drop, length}
 use Rattle.std.proofs.Common.{rules}
 use native.Mathlib.Numerals.{add-one}
 use native.Mathlib.Omega.{arith}
 use Rattle.slot.proofs.Puts.{put_next}
-use Rattle.slot.specs.Image.{flag_byte, put_flags}
+use Rattle.slot.specs.Image.{flag_byte}
 use Rattle.slot.proofs.image.put_groups.Goals as goal
 
 pub loop-i-init : goal.loop-i-init

@@ -1,12 +1,11 @@
 -- `image::put_scenes` meets its contract: the scenes passed are put, what stands behind them is as it was.
-use Prim.Native.Nat.{◌≤◌, ◌-◌, ◌*◌}
+use Prim.Native.Nat.{◌*◌}
 use mathlib.Core.Path.{◌≡◌, refl, ◌∙◌}
-use lib.ListN.{drop, length}
 use Rattle.std.proofs.Common.{rules}
 use native.Mathlib.Numerals.{add-one}
 use native.Mathlib.Omega.{arith}
 use Rattle.slot.proofs.Puts.{put_next}
-use Rattle.slot.specs.Image.{put_all, put_setting}
+use Rattle.slot.specs.Image.{put_setting}
 use Rattle.gear.specs.Scene.{nowhere}
 use Rattle.slot.proofs.image.put_scenes.Goals as goal
 

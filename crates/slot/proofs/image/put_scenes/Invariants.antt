@@ -1,10 +1,7 @@
 -- `image::put_scenes` meets its contract: the scenes passed are put, what stands behind them is as it was.
 use Prim.Native.Nat.{◌≤◌, ◌-◌, ◌*◌}
-use mathlib.Core.Path.{◌≡◌, refl, ◌∙◌}
+use mathlib.Core.Path.{◌≡◌}
 use lib.ListN.{drop, length}
-use native.Mathlib.Numerals.{add-one}
-use native.Mathlib.Omega.{arith}
-use Rattle.slot.proofs.Puts.{put_next}
 use Rattle.slot.specs.Image.{put_all, put_setting}
 use Rattle.gear.specs.Scene.{nowhere}
 use Rattle.slot.proofs.image.put_scenes.Given as goal

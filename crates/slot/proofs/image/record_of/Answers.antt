@@ -1,8 +1,7 @@
 -- `image::record_of` meets its contract: the two tests decide.
 use mathlib.Core.Path.{sym, ◌∙◌, ap}
 use borrow.Author.Tests.{eq-eqb, ne_eqb}
-use Rattle.gear.specs.Answer.{done, refused}
-use Rattle.gear.specs.Record.{new_gear}
+use Rattle.gear.specs.Answer.{done}
 use Rattle.slot.specs.Calls.{record_of}
 use Rattle.slot.proofs.image.record_of.Goals as goal
 

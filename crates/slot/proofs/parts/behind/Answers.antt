@@ -2,8 +2,6 @@ use Prim.Native.Nat.{◌-◌}
 use lib.ListN.{drop, length, length-drop, drop_of_length-le}
 use lib.Seq.{drop-length, take_all, take-nil}
 use native.Mathlib.Omega.{arith}
-use Rattle.slot.proofs.parts.behind.Reads as reads
-use Rattle.slot.proofs.parts.behind.Lts as lts
 use Rattle.slot.proofs.parts.behind.Goals as goal
 
 -- src/parts.rt:196:9

@@ -1,8 +1,8 @@
 -- `parts::scenes_of` meets its contract: the entries passed are those of the slot.
-use Prim.Native.Nat.{ℕ, ◌≤◌, ◌-◌, ◌+◌, ◌*◌, suc}
+use Prim.Native.Nat.{ℕ, ◌*◌}
 use mathlib.Core.Path.{◌≡◌, refl, sym, ◌∙◌, ap}
 use mathlib.Core.List.{List}
-use lib.ListN.{drop, length, length-set, take}
+use lib.ListN.{length, length-set, take}
 use lib.Seq.{drop-drop, take_all, take-suc-set}
 use Rattle.std.proofs.Common.{rules}
 use native.Mathlib.Numerals.{add-one}

@@ -1,13 +1,7 @@
 -- `parts::scenes_of` meets its contract: the entries passed are those of the slot.
-use Prim.Native.Nat.{ℕ, ◌≤◌, ◌-◌, ◌+◌, ◌*◌, suc}
-use mathlib.Core.Path.{◌≡◌, refl, sym, ◌∙◌, ap}
-use mathlib.Core.List.{List}
-use lib.ListN.{drop, length, length-set, take}
-use lib.Seq.{drop-drop, take_all, take-suc-set}
-use native.Mathlib.Numerals.{add-one}
-use native.Mathlib.Omega.{arith}
-use Rattle.gear.specs.declared.settings.LevelSetting.{LevelSetting}
-use Rattle.slot.proofs.Lists.{settings_more}
+use Prim.Native.Nat.{◌≤◌, ◌-◌}
+use mathlib.Core.Path.{◌≡◌}
+use lib.ListN.{drop, length, take}
 use Rattle.slot.specs.Record.{settings_in}
 use Rattle.slot.proofs.parts.scenes_of.Given as goal
 
