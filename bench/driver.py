@@ -10,7 +10,7 @@ HERE = pathlib.Path(__file__).resolve().parent
 ROOT = HERE.parent
 OUT = ROOT / "target" / "bench"
 DRIVER = OUT / "bench"
-SESSION = ROOT / "target" / "bin" / "session"
+SESSION = ROOT / "crates" / "session" / "out" / "session"
 NATIVE = platform.machine() == "x86_64"
 EMULATOR = os.environ.get("EMULATOR") or "/usr/bin/qemu-x86_64"
 # Each work is done so often, and twice as often: the difference has no start in it.
@@ -32,24 +32,22 @@ def needed(program, what):
 
 
 def kit():
-    """The kit's folder, and the part of it for this processor."""
+    """The kit's folder."""
     guide = subprocess.run([needed("rt", "with its kit"), "doc"], capture_output=True, text=True)
     if guide.returncode != 0:
         raise Stop(3, "'rt doc' does not tell where the kit is")
-    home = pathlib.Path(guide.stdout.strip()).parent.parent
-    return home, home / "on" / platform.machine()
+    return pathlib.Path(guide.stdout.strip()).parent
 
 
 def kit_loader():
-    """The kit's loader and C library, with which rt's own programs run, and a Rust program under the emulator."""
-    lib = kit()[1] / "toolchain" / "lib"
+    """The kit's loader and C library, with which programs run under the emulator, where there may be no other."""
+    lib = kit() / "toolchain" / "lib"
     return [str(lib / "ld-linux-x86-64.so.2"), "--library-path", str(lib)]
 
 
 def start(program, counter=()):
-    """The words that start a program for x86-64 here, under what counts. Only rt's own programs want the kit's
-    C library; under the emulator there may be no other."""
-    loader = kit_loader() if program == SESSION or not NATIVE else []
+    """The words that start a program for x86-64 here, under what counts."""
+    loader = [] if NATIVE else kit_loader()
     if counter:
         return [*counter, *loader, str(program)]
     return [*([] if NATIVE else emulator()), *loader, str(program)]

@@ -1,9 +1,11 @@
-"""A program of crates/ built from its sources as they are now, without any proof: for measuring, never kept in target/bin."""
+"""A program of crates/ built from its sources as they are now, without any proof: for measuring, never kept in a crate's out/."""
 import subprocess
 
 from driver import Stop, kit
 
 LIBRARIES = ("std", "numbers", "colour", "level", "bank", "gear", "query", "calls", "step", "file", "runner", "io", "libc", "os")
+# The kit's tool that builds a program without proof and without checks in it.
+BUILDER = "rattle-cases"
 
 
 def wrapped_tools(folder, tools):
@@ -23,18 +25,20 @@ case " $* " in *" -O3 "*) cp module.bc module.o '{folder}' && printf '%s\\n' "$@
 
 
 def build(name, crates, folder, given, written):
-    """Builds it as 'rt try' does, and sees that for the bytes that it is given it writes what it should. Leaves in the
-    folder module.bc, the program before the compiler improves it, module.o, and the compiler's words."""
-    home, own = kit()
-    tools = wrapped_tools(folder, own / "toolchain")
+    """Builds it, and sees that for the bytes that it is given it writes what it should. Leaves in the folder module.bc,
+    the program before the compiler improves it, module.o, and the compiler's words."""
+    home = kit()
+    if not (home / "bin" / BUILDER).exists():
+        raise Stop(3, f"this kit has no {BUILDER}; what 'rt try' builds has checks in it, which would be measured too")
+    tools = wrapped_tools(folder, home / "toolchain")
     (folder / "stdin").write_bytes(given)
     (folder / "stdout").write_bytes(written)
-    words = [str(own / "bin" / "rattle-cases"), "--toolchain", str(tools), "--link", str(home / "lib" / "libos_c.a"),
+    words = [str(home / "bin" / BUILDER), "--toolchain", str(tools), "--link", str(home / "c" / "libos_c.a"),
              "--stdin", str(folder / "stdin"), "--stdout", str(folder / "stdout"),
              str(crates / name / "src" / "main.rt"), "--crate-name", name]
     for library in LIBRARIES:
         ours = crates / library / "src" / "lib.rt"
-        words += ["--lib", f"{library}={ours if ours.exists() else home / 'libs' / library / 'src' / 'lib.rt'}"]
+        words += ["--lib", f"{library}={ours if ours.exists() else home / 'rattle' / library / 'src' / 'lib.rt'}"]
     tried = subprocess.run(words, stdin=subprocess.DEVNULL, capture_output=True, text=True)
     if tried.returncode != 0 or not (folder / "module.o").exists():
         raise Stop(1, f"it does not compile or run:\n{tried.stdout}{tried.stderr}".rstrip())

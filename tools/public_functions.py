@@ -7,15 +7,35 @@ import re
 
 CRATES = pathlib.Path(__file__).resolve().parent.parent / "crates"
 ITEM = re.compile(
-    r'^impl (?P<holder>\w+)|^}|^ *pub (?:extern "C" )?fn (?P<name>\w+)[^(]*\((?P<params>[^)]*)\)(?P<result>[^{]*?)(?=\s(?:requires|ensures|{))'
-    r"(?P<contract>(?:\s*(?:requires|ensures)\b[^\n]*\n)*)",
+    r'^impl (?P<holder>\w+)|^}|^ *pub (?:extern "C" )?fn (?P<name>\w+)[^(]*\((?P<params>[^)]*)\)(?P<result>[^{]*?)(?=\s(?:requires|ensures|{))',
     re.M,
 )
-ENSURES = re.compile(r"ensures[^{]*\{ λ \w+\. ⌜ (.*) ⌝ \}")
+CLAUSE = re.compile(r"\s*(?:requires|ensures)\b\*?(?: \w+)? (?={)")
+STATIC = re.compile(r"^(\w+) +staticlib\b", re.M)
 
 # path: modules, the type that holds it if any, and its name. params and result: as in the source. promises: the text of
-# each `ensures`.
+# each `ensures`, on one line.
 Function = collections.namedtuple("Function", "crate path params result promises")
+
+
+def closing(text, opening):
+    """The place behind the brace that closes the one at 'opening'."""
+    depth = 0
+    for at in range(opening, len(text)):
+        depth += {"{": 1, "}": -1}.get(text[at], 0)
+        if depth == 0:
+            return at + 1
+    raise ValueError("a brace is not closed")
+
+
+def promises(text, at):
+    """What the clauses behind a signature ensure."""
+    found = []
+    while clause := CLAUSE.match(text, at):
+        at = closing(text, clause.end())
+        if "ensures" in clause[0]:
+            found.append(" ".join(text[clause.end() + 1 : at - 1].split()))
+    return found
 
 
 def below(crate, file, folder, path):
@@ -26,8 +46,7 @@ def below(crate, file, folder, path):
             holder = [item["holder"]]
         elif item["name"]:
             params = [param.strip() for param in item["params"].split(",") if param.strip()]
-            promises = ENSURES.findall(item["contract"])
-            yield Function(crate, path + holder + [item["name"]], params, item["result"].strip(), promises)
+            yield Function(crate, path + holder + [item["name"]], params, item["result"].strip(), promises(text, item.end()))
         else:
             holder = []
     for module in re.findall(r"^pub mod (\w+);", text, re.M):
@@ -37,6 +56,11 @@ def below(crate, file, folder, path):
 def all_functions(crates=CRATES):
     for library in sorted(crates.glob("*/src/lib.rt")):
         yield from below(library.parent.parent.name, library, library.parent, [])
+
+
+def archives(crates=CRATES):
+    """The crates that are built for hosts, on which no crate can stand: static libraries by crates.txt."""
+    return STATIC.findall((crates.parent / "crates.txt").read_text())
 
 
 # a record, and what holds one

@@ -16,7 +16,7 @@ NAME = re.compile(r"(?<![\w.:])[a-z]\w*\b(?!\s*(?:\(|::|:[^:]))")
 CONSTANT = re.compile(r"(?<![\w.:])[A-Z][A-Z0-9_]+\b")
 
 COMMENT = re.compile(r"//.*")
-CONTRACT = re.compile(r"\b(?:requires|ensures) (?=\{)")
+CONTRACT = re.compile(r"\b(?:requires|ensures)\b\*?(?: \w+)? (?=\{)")
 FUNCTION = re.compile(r"\bfn (\w+)")
 FIXED = re.compile(r"\bconst (\w+): ([^=]+) = ([^;]+);")
 PARAMETER = re.compile(r"\b(\w+): ")

@@ -6,7 +6,7 @@
  * header only carries their arguments over. They allocate nothing, keep nothing between calls, and
  * may be called from several threads at once.
  *
- * Link target/staticlib/libdali_gear.a, which 'rt staticlib dali_gear' makes, into an x86-64 program.
+ * Link target/staticlib/libdali_gear.a, which tools/archive makes, into an x86-64 program.
  */
 #ifndef DALI_GEAR_H
 #define DALI_GEAR_H
