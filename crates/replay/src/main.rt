@@ -11,57 +11,75 @@ mod image;
 mod perform;
 mod place;
 
+ghost use Rattle.std.specs.Prelude.{◌≤◌, length, IfOk};
+
 use crate::compare::{Progress, compare_all, start};
-use libc::{STDIN_FILENO, STDOUT_FILENO};
+use std::io;
+use std::io::Read;
 
 // 1,024 entries.
 const BUFFER_LEN: usize = 40960;
 
+// Reads until the buffer is full or the input ends, and says how many bytes it put at the buffer's start.
+fn read_full<R: Read>(input: &mut R, list: &mut [u8]) -> io::Result<usize>
+    ensures { IfOk result (λ count. count ≤ length list.new) }
+{
+    let mut done: usize = 0;
+    while done < list.len() {
+        let more = input.read(&mut list[done..])?;
+        if more == 0 {
+            return Ok(done);
+        }
+        done += more;
+    }
+    Ok(done)
+}
+
 // Compares as many entries as the buffer holds. The input is over where it does not fill the buffer.
-fn turn(progress: Progress) -> Progress {
+fn turn<R: Read>(input: &mut R, progress: Progress) -> io::Result<Progress> {
     let mut list = [0u8; BUFFER_LEN];
-    let count = io::read_full(STDIN_FILENO, &mut list);
+    let count = read_full(input, &mut list)?;
     let mut next = compare_all(progress, &list[..count]);
     if count < BUFFER_LEN {
         next.over = true;
     }
-    next
+    Ok(next)
 }
 
 // A proved loop ends, and nothing says that an input does: so the turns count down from a number that no run uses up.
-fn replayed() -> Progress {
+fn replayed<R: Read>(input: &mut R) -> io::Result<Progress> {
     let mut progress = start();
     let mut turns = u64::MAX;
     while 0 < turns {
         if progress.over {
-            return progress;
+            return Ok(progress);
         }
-        progress = turn(progress);
+        progress = turn(input, progress)?;
         turns -= 1;
     }
-    progress
+    Ok(progress)
 }
 
-fn print_line(name: &[u8], number: u64) {
-    io::write_all(STDOUT_FILENO, name);
-    io::print_decimal(STDOUT_FILENO, number);
-    io::write_all(STDOUT_FILENO, b"\n");
+fn print_line(rt: &impl Print, name: &str, number: u64) -> io::Result<()> {
+    println!(rt; "{name}{number}")
 }
 
-fn print_first(first: u64) {
+fn print_first(rt: &impl Print, first: u64) -> io::Result<()> {
     if first == 0 {
-        io::write_all(STDOUT_FILENO, b"first -\n");
+        println!(rt; "first -")
     } else {
-        print_line(b"first ", first);
+        print_line(rt, "first ", first)
     }
 }
 
-fn main() {
-    let progress = replayed();
-    print_line(b"compared ", progress.compared);
-    print_line(b"differ ", progress.differ);
-    print_first(progress.first);
+fn main(rt: HostRuntime) -> io::Result<()> {
+    let mut input = rt.stdin();
+    let progress = replayed(&mut input)?;
+    print_line(&rt, "compared ", progress.compared)?;
+    print_line(&rt, "differ ", progress.differ)?;
+    print_first(&rt, progress.first)?;
     if progress.malformed {
-        print_line(b"malformed at ", progress.offset);
+        print_line(&rt, "malformed at ", progress.offset)?;
     }
+    Ok(())
 }
