@@ -11,7 +11,8 @@ mod image;
 mod perform;
 mod place;
 
-ghost use Rattle.std.specs.Prelude.{◌≤◌, length, IfOk};
+ghost use Rattle.std.specs.Prelude.{◌≤◌, ◌<◌, length, take, IfOk};
+ghost use Rattle.std.specs.Io.KnownBytes.{Consumes, IsAtEnd};
 
 use crate::compare::{Progress, compare_all, start};
 use std::io;
@@ -20,9 +21,11 @@ use std::io::Read;
 // 1,024 entries.
 const BUFFER_LEN: usize = 40960;
 
-// Reads until the buffer is full or the input ends, and says how many bytes it put at the buffer's start.
+// Reads until the buffer is full or the input ends, and answers how many bytes it put at the buffer's start.
 fn read_full<R: Read>(input: &mut R, list: &mut [u8]) -> io::Result<usize>
-    ensures { IfOk result (λ count. count ≤ length list.new) }
+    ensures within { IfOk result (λ count. count ≤ length list.new) }
+    ensures bytes { IfOk result (λ count. Consumes (R.remaining input.old) (R.remaining input.new) (take count list.new)) }
+    ensures end { IfOk result (λ count. count < length list.new → IsAtEnd (R.remaining input.new)) }
 {
     let mut done: usize = 0;
     while done < list.len() {

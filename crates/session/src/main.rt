@@ -1,8 +1,13 @@
 // Reads a session file from standard input and writes the lines of its run. What the lines are is the library's promise.
 #![tactic(auto)]
 
-use libc::{STDIN_FILENO, STDOUT_FILENO};
+ghost use Rattle.std.specs.Prelude.{◌≤◌, ◌<◌, length, take, IfOk, OnOk};
+ghost use Rattle.std.specs.Io.KnownBytes.{Appends, Consumes, IsAtEnd};
+
 use runner::run::{Ran, report};
+use std::io;
+use std::io::{Read, Write};
+use std::process::ExitCode;
 
 // One byte more than the longest well-formed file: what lies behind it changes no answer.
 const FILE_LEN: usize = 16413;
@@ -10,46 +15,52 @@ const FILE_LEN: usize = 16413;
 // Room for the lines of 4,096 steps.
 const LINES_LEN: usize = 45072;
 
-// Reads until the buffer is full or the input ends, and answers as `libc::read` does: -1 where a read fails.
-fn read_file(file: &mut [u8]) -> isize {
+// Reads until the buffer is full or the input ends, and answers how many bytes it put at the buffer's start.
+fn read_file<R: Read>(input: &mut R, file: &mut [u8]) -> io::Result<usize>
+    ensures within { IfOk result (λ count. count ≤ length file.new) }
+    ensures bytes { IfOk result (λ count. Consumes (R.remaining input.old) (R.remaining input.new) (take count file.new)) }
+    ensures end { IfOk result (λ count. count < length file.new → IsAtEnd (R.remaining input.new)) }
+{
     let mut done: usize = 0;
     while done < file.len() {
-        let got = libc::read(STDIN_FILENO, &mut file[done..]);
-        if got < 0 {
-            return -1;
-        }
-        let more = io::count(got, &file[done..]);
+        let more = input.read(&mut file[done..])?;
         if more == 0 {
-            return done as isize;
+            return Ok(done);
         }
         done += more;
     }
-    done as isize
+    Ok(done)
 }
 
-fn write_lines(lines: &[u8]) {
-    if !io::write_all(STDOUT_FILENO, lines) {
-        os::fail(b"session: standard output");
-    }
+fn write_lines<W: Write>(output: &mut W, lines: &[u8]) -> io::Result<()>
+    ensures { OnOk result (Appends (W.contents output.old) (W.contents output.new) lines.now) }
+{
+    output.write_all(lines)
 }
 
-fn print(file: &[u8]) {
+fn print<W: Write>(output: &mut W, file: &[u8]) -> io::Result<()> {
     let mut lines = [0u8; LINES_LEN];
     let ran = report(file, &mut lines);
     match ran {
-        Ran::Lines(count) => write_lines(&lines[..count]),
-        Ran::Malformed(_) => (),
-        Ran::Short(_) => (),
+        Ran::Lines(count) => write_lines(output, &lines[..count]),
+        Ran::Malformed(_) => Ok(()),
+        Ran::Short(_) => Ok(()),
     }
 }
 
-fn main() {
+// A line on standard error says what failed, where it can.
+fn failed(rt: &impl Eprint, what: &str, error: io::Error) -> ExitCode {
+    let _ = eprintln!(rt; "session: {what}: {error}");
+    ExitCode::FAILURE
+}
+
+fn main(rt: HostRuntime) -> ExitCode {
     let mut file = [0u8; FILE_LEN];
-    let got = read_file(&mut file);
-    if got < 0 {
-        os::fail(b"session: standard input");
-        return;
+    match read_file(&mut rt.stdin(), &mut file) {
+        Ok(count) => match print(&mut rt.stdout(), &file[..count]) {
+            Ok(()) => ExitCode::SUCCESS,
+            Err(error) => failed(&rt, "standard output", error),
+        },
+        Err(error) => failed(&rt, "standard input", error),
     }
-    let count = io::count(got, &file);
-    print(&file[..count]);
 }
