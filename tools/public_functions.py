@@ -78,8 +78,8 @@ NO_CALLS = {
 }
 
 
-# the public functions that are proved by hand, with the reason: of these the kit makes no reading of the promise that a line of
-# one outcome could name
+# the public functions that no line of one outcome names, with the reason: they were proved by hand, and the kit of that time made no
+# reading of such a promise that a line could name
 BY_HAND = {
     "borrowed::write": "takes a reference to a struct; its promise is an equation for the answer and one for the record",
     "borrowed::power_cycle": "takes a reference to a struct; its promise is an equation for the answer and one for the record",
