@@ -11,7 +11,7 @@ mod image;
 mod perform;
 mod place;
 
-ghost use Rattle.std.specs.Prelude.{◌≤◌, ◌<◌, length, take, IfOk};
+ghost use Rattle.std.specs.Prelude.{ℕ, ◌≤◌, ◌<◌, length, take, IfOk, OnErr};
 ghost use Rattle.std.specs.Io.KnownBytes.{Consumes, IsAtEnd};
 
 use crate::compare::{Progress, compare_all, start};
@@ -26,6 +26,7 @@ fn read_full<R: Read>(input: &mut R, list: &mut [u8]) -> io::Result<usize>
     ensures within { IfOk result (λ count. count ≤ length list.new) }
     ensures bytes { IfOk result (λ count. Consumes (R.remaining input.old) (R.remaining input.new) (take count list.new)) }
     ensures end { IfOk result (λ count. count < length list.new → IsAtEnd (R.remaining input.new)) }
+    ensures err { OnErr result ((count : ℕ) × (count ≤ length list.new) × Consumes (R.remaining input.old) (R.remaining input.new) (take count list.new)) }
 {
     let mut done: usize = 0;
     while done < list.len() {

@@ -1,7 +1,7 @@
 // Reads a session file from standard input and writes the lines of its run. What the lines are is the library's promise.
 #![tactic(auto)]
 
-ghost use Rattle.std.specs.Prelude.{◌≤◌, ◌<◌, length, take, IfOk, OnOk};
+ghost use Rattle.std.specs.Prelude.{ℕ, ◌≤◌, ◌<◌, length, take, IfOk, OnErr, OnOk};
 ghost use Rattle.std.specs.Io.KnownBytes.{Appends, Consumes, IsAtEnd};
 
 use runner::run::{Ran, report};
@@ -20,6 +20,7 @@ fn read_file<R: Read>(input: &mut R, file: &mut [u8]) -> io::Result<usize>
     ensures within { IfOk result (λ count. count ≤ length file.new) }
     ensures bytes { IfOk result (λ count. Consumes (R.remaining input.old) (R.remaining input.new) (take count file.new)) }
     ensures end { IfOk result (λ count. count < length file.new → IsAtEnd (R.remaining input.new)) }
+    ensures err { OnErr result ((count : ℕ) × (count ≤ length file.new) × Consumes (R.remaining input.old) (R.remaining input.new) (take count file.new)) }
 {
     let mut done: usize = 0;
     while done < file.len() {
