@@ -11,33 +11,13 @@ mod image;
 mod perform;
 mod place;
 
-ghost use Rattle.std.specs.Prelude.{ℕ, ◌≤◌, ◌<◌, length, take, IfOk, OnErr};
-ghost use Rattle.std.specs.Io.KnownBytes.{Consumes, IsAtEnd};
-
 use crate::compare::{Progress, compare_all, start};
+use input::read_full;
 use std::io;
 use std::io::Read;
 
 // 1,024 entries.
 const BUFFER_LEN: usize = 40960;
-
-// Reads until the buffer is full or the input ends, and answers how many bytes it put at the buffer's start.
-fn read_full<R: Read>(input: &mut R, list: &mut [u8]) -> io::Result<usize>
-    ensures within { IfOk result (λ count. count ≤ length list.new) }
-    ensures bytes { IfOk result (λ count. Consumes (R.remaining input.old) (R.remaining input.new) (take count list.new)) }
-    ensures end { IfOk result (λ count. count < length list.new → IsAtEnd (R.remaining input.new)) }
-    ensures err { OnErr result ((count : ℕ) × (count ≤ length list.new) × Consumes (R.remaining input.old) (R.remaining input.new) (take count list.new)) }
-{
-    let mut done: usize = 0;
-    while done < list.len() {
-        let more = input.read(&mut list[done..])?;
-        if more == 0 {
-            return Ok(done);
-        }
-        done += more;
-    }
-    Ok(done)
-}
 
 // Compares as many entries as the buffer holds. The input is over where it does not fill the buffer.
 fn turn<R: Read>(input: &mut R, progress: Progress) -> io::Result<Progress> {

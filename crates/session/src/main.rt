@@ -1,12 +1,13 @@
 // Reads a session file from standard input and writes the lines of its run. What the lines are is the library's promise.
 #![tactic(auto)]
 
-ghost use Rattle.std.specs.Prelude.{ℕ, ◌≤◌, ◌<◌, length, take, IfOk, OnErr, OnOk};
-ghost use Rattle.std.specs.Io.KnownBytes.{Appends, Consumes, IsAtEnd};
+ghost use Rattle.std.specs.Prelude.{OnOk};
+ghost use Rattle.std.specs.Io.KnownBytes.{Appends};
 
+use input::read_full;
 use runner::run::{Ran, report};
 use std::io;
-use std::io::{Read, Write};
+use std::io::Write;
 use std::process::ExitCode;
 
 // One byte more than the longest well-formed file: what lies behind it changes no answer.
@@ -14,24 +15,6 @@ const FILE_LEN: usize = 16413;
 
 // Room for the lines of 4,096 steps.
 const LINES_LEN: usize = 45072;
-
-// Reads until the buffer is full or the input ends, and answers how many bytes it put at the buffer's start.
-fn read_file<R: Read>(input: &mut R, file: &mut [u8]) -> io::Result<usize>
-    ensures within { IfOk result (λ count. count ≤ length file.new) }
-    ensures bytes { IfOk result (λ count. Consumes (R.remaining input.old) (R.remaining input.new) (take count file.new)) }
-    ensures end { IfOk result (λ count. count < length file.new → IsAtEnd (R.remaining input.new)) }
-    ensures err { OnErr result ((count : ℕ) × (count ≤ length file.new) × Consumes (R.remaining input.old) (R.remaining input.new) (take count file.new)) }
-{
-    let mut done: usize = 0;
-    while done < file.len() {
-        let more = input.read(&mut file[done..])?;
-        if more == 0 {
-            return Ok(done);
-        }
-        done += more;
-    }
-    Ok(done)
-}
 
 fn write_lines<W: Write>(output: &mut W, lines: &[u8]) -> io::Result<()>
     ensures { OnOk result (Appends (W.contents output.old) (W.contents output.new) lines.now) }
@@ -57,7 +40,7 @@ fn failed(rt: &impl Eprint, what: &str, error: io::Error) -> ExitCode {
 
 fn main(rt: HostRuntime) -> ExitCode {
     let mut file = [0u8; FILE_LEN];
-    match read_file(&mut rt.stdin(), &mut file) {
+    match read_full(&mut rt.stdin(), &mut file) {
         Ok(count) => match print(&mut rt.stdout(), &file[..count]) {
             Ok(()) => ExitCode::SUCCESS,
             Err(error) => failed(&rt, "standard output", error),

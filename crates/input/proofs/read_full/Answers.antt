@@ -1,11 +1,11 @@
--- `read_file` meets its contract: what a turn reads lies behind what was read before.
+-- `read_full` meets its contract: what a turn reads lies behind what was read before.
 use Rattle.std.proofs.Common.{◌≡◌, ℕ, ◌+◌, ◌≤◌, List, ◌++◌, rules, length, take, sym, ap, ◌∙◌, subst, length-take-le}
 use Rattle.std.proofs.KnownBytes.{Consumes-trans}
 use Rattle.std.proofs.Math.Seq.{take-append-add}
 use Rattle.std.proofs.lemmas.List.{take-append-le}
 use Rattle.std.specs.Io.KnownBytes.{Consumes}
 use borrow.Rule.Slice.PartMut.{put_mid, post_of}
-use Rattle.session.proofs.read_file.Goals as goal
+use Rattle.input.proofs.read_full.Goals as goal
 
 -- The first `a` bytes, and then the `n` that a turn read behind them.
 take_more_read : (a k n : ℕ) (xs ys : List ℕ) → a ≤ length xs → n ≤ length ys → take (a + n) (put_mid a k xs ys) ≡ take a xs ++ take n ys
