@@ -78,11 +78,9 @@ NO_CALLS = {
 }
 
 
-# the public functions that no line of one outcome names, with the reason: they were proved by hand, and the kit of that time made no
-# reading of such a promise that a line could name
-BY_HAND = {
-    "borrowed::write": "takes a reference to a struct; its promise is an equation for the answer and one for the record",
-    "borrowed::power_cycle": "takes a reference to a struct; its promise is an equation for the answer and one for the record",
+# the public functions that no line of one outcome names, with the reason
+NO_LINE = {
+    "input::read_full": "how many bytes a read gives is the reader's: its promise says which they are, wherever it stops",
 }
 
 

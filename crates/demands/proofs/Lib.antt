@@ -15,6 +15,7 @@ pub mod LastOffset
 pub mod Named
 pub mod Outcome
 pub mod OutcomesBank
+pub mod OutcomesBorrowed
 pub mod OutcomesCalls
 pub mod OutcomesColour
 pub mod OutcomesDaliGear

@@ -3,6 +3,7 @@
 
 ghost use Rattle.std.specs.Prelude.{OnOk};
 ghost use Rattle.std.specs.Io.KnownBytes.{Appends};
+ghost use Rattle.runner.specs.Run.{printed};
 
 use input::read_full;
 use runner::run::{Ran, report};
@@ -22,7 +23,9 @@ fn write_lines<W: Write>(output: &mut W, lines: &[u8]) -> io::Result<()>
     output.write_all(lines)
 }
 
-fn print<W: Write>(output: &mut W, file: &[u8]) -> io::Result<()> {
+fn print<W: Write>(output: &mut W, file: &[u8]) -> io::Result<()>
+    ensures { OnOk result (Appends (W.contents output.old) (W.contents output.new) (printed file.now)) }
+{
     let mut lines = [0u8; LINES_LEN];
     let ran = report(file, &mut lines);
     match ran {
