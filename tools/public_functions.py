@@ -7,15 +7,15 @@ import re
 
 CRATES = pathlib.Path(__file__).resolve().parent.parent / "crates"
 ITEM = re.compile(
-    r'^impl (?P<holder>\w+)|^}|^ *pub (?:extern "C" )?fn (?P<name>\w+)[^(]*\((?P<params>[^)]*)\)(?P<result>[^{]*?)(?=\s(?:requires|ensures|{))',
+    r'^impl (?P<holder>\w+)|^}|^ *pub (?:extern "C" )?fn (?P<name>\w+)(?P<generics>[^(]*)\((?P<params>[^)]*)\)(?P<result>[^{]*?)(?=\s(?:requires|ensures|{))',
     re.M,
 )
 CLAUSE = re.compile(r"\s*(?:requires|ensures)\b\*?(?: \w+)? (?={)")
 STATIC = re.compile(r"^(\w+) +staticlib\b", re.M)
 
-# path: modules, the type that holds it if any, and its name. params and result: as in the source. promises: the text of
-# each `ensures`, on one line.
-Function = collections.namedtuple("Function", "crate path params result promises")
+# path: modules, the type that holds it if any, and its name. generics, params and result: as in the source. promises: the
+# text of each `ensures`, on one line.
+Function = collections.namedtuple("Function", "crate path generics params result promises")
 
 
 def closing(text, opening):
@@ -46,7 +46,8 @@ def below(crate, file, folder, path):
             holder = [item["holder"]]
         elif item["name"]:
             params = [param.strip() for param in item["params"].split(",") if param.strip()]
-            yield Function(crate, path + holder + [item["name"]], params, item["result"].strip(), promises(text, item.end()))
+            name = path + holder + [item["name"]]
+            yield Function(crate, name, item["generics"], params, item["result"].strip(), promises(text, item.end()))
         else:
             holder = []
     for module in re.findall(r"^pub mod (\w+);", text, re.M):
@@ -73,6 +74,7 @@ NO_CALLS = {
     "gear::answer::done": "puts the answer Done beside the record that a call leaves",
     "gear::answer::refused": "puts a refusal beside the record that a call hands back",
     "gear::record::Gear::fit": "is the test itself",
+    "gear::serve::serve": "makes the test for a call that may change the record",
     "gear::serve::tell": "makes the test for a call that only answers",
     "slot::image::store": "puts a record into a slot",
 }

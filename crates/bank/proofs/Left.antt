@@ -2,8 +2,8 @@
 use Prim.Native.Nat.{ℕ}
 use mathlib.Core.Path.{◌≡◌, refl}
 use mathlib.Core.Bool.{Bool, true, false}
+use Rattle.std.specs.Prelude.{Some, None}
 use Rattle.bank.specs.declared.build.Banks.{Banks}
-use Rattle.bank.specs.declared.memory.Location.TheVariants.{Byte, Nothing}
 use Rattle.bank.specs.Memory.{profile_location, lacks_indicator_byte, memory_location, writable, stored, write_memory_location}
 use Rattle.bank.specs.Setters.{set_bank1_lock_byte, set_bank1_location, set_logical_gear_unit, set_bank0_last_offset, clear_identification_number}
 use Rattle.numbers.proofs.Logic.{by_cases}
@@ -11,7 +11,7 @@ use Rattle.numbers.proofs.Logic.{by_cases}
 -- ---- the last offset of bank 1
 
 -- offset 0 of bank 1 reads 16, whatever is stored in either bank, and with or without indicator bytes
-pub profile_last_lem : (b : Banks) (bare : Bool) → memory_location b bare 1 0 ≡ Byte 16
+pub profile_last_lem : (b : Banks) (bare : Bool) → memory_location b bare 1 0 ≡ Some 16
 unfolding profile_location lacks_indicator_byte memory_location
 profile_last_lem b true = refl
 profile_last_lem b false = refl
@@ -28,7 +28,7 @@ write_identity b unstored bank offset value = refl
 -- a location that cannot be written gives no answer, and nothing changes
 pub write_refused :
     (b : Banks) (unstored : Bool) (bank offset value : ℕ) →
-    writable b bank offset ≡ false → write_memory_location b unstored bank offset value ≡ record { answer = Nothing; banks = b }
+    writable b bank offset ≡ false → write_memory_location b unstored bank offset value ≡ record { answer = None; banks = b }
 unfolding write_memory_location
 write_refused b unstored bank offset value e = rw e
 

@@ -4,8 +4,8 @@ use Prim.Native.Nat.{ℕ}
 use mathlib.Core.Path.{◌≡◌, refl}
 use mathlib.Core.Bool.{Bool, true, false}
 use mathlib.Core.List.{[], ◌∷◌}
+use Rattle.std.specs.Prelude.{Some, None}
 use Rattle.bank.specs.declared.build.Banks.{Banks}
-use Rattle.bank.specs.declared.memory.Location.TheVariants.{Byte, Nothing}
 use Rattle.bank.specs.Build.{build_bank0, build_bank1, build}
 use Rattle.bank.specs.Memory.{identity_location, lacks_indicator_byte, memory_location, profile_writable, writable, store_profile, stored, write_memory_location}
 use Rattle.bank.specs.Setters.{set_bank0_last_offset}
@@ -13,10 +13,10 @@ use Rattle.bank.specs.Setters.{set_bank0_last_offset}
 -- P8: bank 0 ends at 26, its offset 1 is reserved, the last bank is 1, and 27 lies beyond
 pub p8 :
     (random : ℕ) (bare : Bool) →
-    (memory_location (build random) bare 0 0 ≡ Byte 26) ×
-    (memory_location (build random) bare 0 1 ≡ Nothing) ×
-    (memory_location (build random) bare 0 2 ≡ Byte 1) ×
-    (memory_location (build random) bare 0 27 ≡ Nothing)
+    (memory_location (build random) bare 0 0 ≡ Some 26) ×
+    (memory_location (build random) bare 0 1 ≡ None) ×
+    (memory_location (build random) bare 0 2 ≡ Some 1) ×
+    (memory_location (build random) bare 0 27 ≡ None)
 unfolding build_bank0 build identity_location lacks_indicator_byte memory_location
 p8 random true = (refl, refl, refl, refl)
 p8 random false = (refl, refl, refl, refl)
@@ -28,18 +28,18 @@ locked random = (write_memory_location (build random) false 1 2 0).banks
 -- P9: that write is answered; then a write at 3 is not, and changes nothing, and one at 2 still is
 pub p9 :
     (random value : ℕ) (unstored : Bool) →
-    ((write_memory_location (build random) false 1 2 0).answer ≡ Byte 0) ×
-    (write_memory_location (locked random) unstored 1 3 value ≡ record { answer = Nothing; banks = locked random }) ×
-    ((write_memory_location (locked random) unstored 1 2 value).answer ≡ Byte value)
+    ((write_memory_location (build random) false 1 2 0).answer ≡ Some 0) ×
+    (write_memory_location (locked random) unstored 1 3 value ≡ record { answer = None; banks = locked random }) ×
+    ((write_memory_location (locked random) unstored 1 2 value).answer ≡ Some value)
 unfolding build_bank1 build profile_writable writable store_profile stored write_memory_location
 p9 random value unstored = (refl, refl, refl)
 
 -- bank 0 stores two bytes more than it shows; a last offset set beyond them shows these, and no more
 pub beyond :
     (random : ℕ) (bare : Bool) →
-    (memory_location (set_bank0_last_offset (build random) 255) bare 0 27 ≡ Byte 0) ×
-    (memory_location (set_bank0_last_offset (build random) 255) bare 0 28 ≡ Byte 0) ×
-    (memory_location (set_bank0_last_offset (build random) 255) bare 0 29 ≡ Nothing)
+    (memory_location (set_bank0_last_offset (build random) 255) bare 0 27 ≡ Some 0) ×
+    (memory_location (set_bank0_last_offset (build random) 255) bare 0 28 ≡ Some 0) ×
+    (memory_location (set_bank0_last_offset (build random) 255) bare 0 29 ≡ None)
 unfolding build_bank0 build identity_location lacks_indicator_byte memory_location set_bank0_last_offset
 beyond random true = (refl, refl, refl)
 beyond random false = (refl, refl, refl)

@@ -1,10 +1,9 @@
 -- What is set in the banks from outside, whatever the lock byte says. `set` stores one byte, and `sets` a row of them from an offset on.
-use Rattle.std.specs.Prelude.{ℕ, List, [], ◌∷◌, leb, set, replicate}
+use Rattle.std.specs.Prelude.{ℕ, List, [], ◌∷◌, set, replicate}
 use Rattle.std.proofs.lemmas.List.Edits.{sets}
 use Rattle.bank.specs.declared.build.Banks.{Banks}
 use Rattle.bank.specs.Build.{with_identity, with_profile}
-use Rattle.bank.specs.Memory.{store_profile}
-use Rattle.numbers.specs.Numbers.{pick}
+use Rattle.bank.specs.Memory.{store_profile, stored_at}
 
 unfoldable pub set_bank1_lock_byte : Banks → ℕ → Banks
 set_bank1_lock_byte b value = with_profile b (set b.profile 2 value)
@@ -13,9 +12,8 @@ set_bank1_lock_byte b value = with_profile b (set b.profile 2 value)
 unfoldable pub set_bank1_location : Banks → ℕ → ℕ → Banks
 set_bank1_location b offset value = with_profile b (store_profile b.profile offset value)
 
--- beyond the bank's 29 bytes nothing is stored
 unfoldable pub store_identity : List ℕ → ℕ → ℕ → List ℕ
-store_identity bytes offset value = pick (leb 29 offset) bytes (set bytes offset value)
+store_identity bytes offset value = stored_at 29 bytes offset value
 
 -- the number of units at offset 25, the index of this one at 26
 unfoldable pub set_logical_gear_unit : Banks → ℕ → ℕ → Banks

@@ -1,6 +1,6 @@
 // Both memory banks, and how a gear leaves the factory with them.
 ghost use Rattle.std.specs.Prelude.{◌≡◌};
-ghost use Rattle.bank.specs.Build.{with_identity, with_profile, bytes_of, build_bank0, build_bank1, build};
+ghost use Rattle.bank.specs.Build.{with_identity, with_profile, build_bank0, build_bank1, build};
 
 // Bank 0 identifies the gear, and bank 1 is its maker's profile. A location of a bank is called by its offset.
 #[derive(Clone, Copy)]
@@ -11,6 +11,7 @@ pub struct Banks {
 
 impl Banks {
     // Both banks of a new gear with this random address.
+    #[tactic(auto, unfolding(crate::specs::Build::build))]
     pub fn build(random: u32) -> Banks
         ensures { result ≡ build random }
     {
@@ -23,59 +24,26 @@ impl Banks {
     pub fn with_identity(self, identity: [u8; 29]) -> Banks
         ensures { result ≡ with_identity self identity }
     {
-        let mut next = self;
-        next.identity = identity;
-        next
+        Banks { identity, ..self }
     }
 
     pub fn with_profile(self, profile: [u8; 17]) -> Banks
         ensures { result ≡ with_profile self profile }
     {
-        let mut next = self;
-        next.profile = profile;
-        next
+        Banks { profile, ..self }
     }
 }
 
-// The lowest six bytes of a number, high byte first.
-fn six_bytes(number: u64) -> [u8; 6]
-    ensures { result ≡ bytes_of 6 number }
-{
-    [
-        (number / 0x0100_0000_0000 % 256) as u8,
-        (number / 0x0001_0000_0000 % 256) as u8,
-        (number / 0x0000_0100_0000 % 256) as u8,
-        (number / 0x0000_0001_0000 % 256) as u8,
-        (number / 0x0000_0000_0100 % 256) as u8,
-        (number % 256) as u8,
-    ]
-}
-
-// All eight bytes of a number, high byte first.
-fn eight_bytes(number: u64) -> [u8; 8]
-    ensures { result ≡ bytes_of 8 number }
-{
-    [
-        (number / 0x0100_0000_0000_0000 % 256) as u8,
-        (number / 0x0001_0000_0000_0000 % 256) as u8,
-        (number / 0x0000_0100_0000_0000 % 256) as u8,
-        (number / 0x0000_0001_0000_0000 % 256) as u8,
-        (number / 0x0000_0000_0100_0000 % 256) as u8,
-        (number / 0x0000_0000_0001_0000 % 256) as u8,
-        (number / 0x0000_0000_0000_0100 % 256) as u8,
-        (number % 256) as u8,
-    ]
-}
-
 // Part 102, table 9: the random address is in the GTIN and in the identification number, which is a sum and can carry.
+#[tactic(auto, unfolding(crate::specs::Build::build_bank0))]
 pub fn build_bank0(random: u32) -> [u8; 29]
     ensures { result ≡ build_bank0 random }
 {
-    let gtin = six_bytes(0x4000_0000_0000 + random as u64);
-    let serial = eight_bytes(0x5EED_0000 + random as u64);
+    let gtin = (0x4000_0000_0000 + random as u64).to_be_bytes();
+    let serial = (0x5EED_0000 + random as u64).to_be_bytes();
     [
         // The last offset, a reserved byte, the last bank.
-        26, 0, 1, gtin[0], gtin[1], gtin[2], gtin[3], gtin[4], gtin[5],
+        26, 0, 1, gtin[2], gtin[3], gtin[4], gtin[5], gtin[6], gtin[7],
         // The firmware's version.
         1, 4, serial[0], serial[1], serial[2], serial[3], serial[4], serial[5], serial[6],
         serial[7],
@@ -89,14 +57,15 @@ pub fn build_bank0(random: u32) -> [u8; 29]
 }
 
 // Part 102, table 10: the maker's own GTIN and identification number; the second is the random address, moved up a byte.
+#[tactic(auto, unfolding(crate::specs::Build::build_bank1))]
 pub fn build_bank1(random: u32) -> [u8; 17]
     ensures { result ≡ build_bank1 random }
 {
-    let gtin = six_bytes(0x0EE0_0000_0000 + random as u64);
-    let serial = eight_bytes(random as u64 * 256);
+    let gtin = (0x0EE0_0000_0000 + random as u64).to_be_bytes();
+    let serial = (random as u64 * 256).to_be_bytes();
     [
         // The last offset, the indicator byte, the lock byte.
-        16, 0, 0x55, gtin[0], gtin[1], gtin[2], gtin[3], gtin[4], gtin[5], serial[0], serial[1],
+        16, 0, 0x55, gtin[2], gtin[3], gtin[4], gtin[5], gtin[6], gtin[7], serial[0], serial[1],
         serial[2], serial[3], serial[4], serial[5], serial[6], serial[7],
     ]
 }

@@ -1,6 +1,6 @@
 // Reading and writing memory locations (part 102, 9.10).
 ghost use Rattle.std.specs.Prelude.{◌≡◌};
-ghost use Rattle.bank.specs.Memory.{is_byte, identity_location, profile_location, lacks_indicator_byte, memory_location, implements_bank, advances_dtr0_past, profile_writable, writable, store_profile, stored, write_memory_location};
+ghost use Rattle.bank.specs.Memory.{identity_location, profile_location, lacks_indicator_byte, memory_location, implements_bank, advances_dtr0_past, profile_writable, writable, stored_at, stored, write_memory_location};
 
 use crate::build::Banks;
 
@@ -25,89 +25,56 @@ pub const LOCK_BYTE: u8 = 2;
 // What the lock byte holds where they are not locked.
 pub const UNLOCKED: u8 = 0x55;
 
-// What a location answers.
-#[derive(Clone, Copy)]
-pub enum Location {
-    Byte(u8),
-    Nothing,
-}
-
-// What a write answers, and the banks after it.
+// What a write answers, if anything, and the banks after it.
 #[derive(Clone, Copy)]
 pub struct Written {
-    pub answer: Location,
+    pub answer: Option<u8>,
     pub banks: Banks,
 }
 
-pub fn is_byte(found: Location) -> bool
-    ensures { result ≡ is_byte found }
-{
-    match found {
-        Location::Byte(_) => true,
-        Location::Nothing => false,
-    }
-}
-
 // Bank 0 ends at the last offset that it names itself, and offset 1 is reserved (part 102, table 9).
-fn identity_location(identity: [u8; 29], offset: u8) -> Location
+#[tactic(auto, unfolding(crate::specs::Memory::identity_location))]
+fn identity_location(identity: [u8; 29], offset: u8) -> Option<u8>
     ensures { result ≡ identity_location identity offset }
 {
-    if identity[0] < offset {
-        return Location::Nothing;
+    if identity[0] < offset || offset == INDICATOR_BYTE {
+        return None;
     }
-    if offset == INDICATOR_BYTE {
-        return Location::Nothing;
-    }
-    if IDENTITY_LEN <= offset {
-        return Location::Nothing;
-    }
-    let at = offset as usize;
-    Location::Byte(identity[at])
+    identity.get(offset as usize).copied()
 }
 
 // The last offset of bank 1 is read at offset 0, whatever is stored there.
-fn profile_location(profile: [u8; 17], offset: u8) -> Location
+#[tactic(auto, unfolding(crate::specs::Memory::profile_location))]
+fn profile_location(profile: [u8; 17], offset: u8) -> Option<u8>
     ensures { result ≡ profile_location profile offset }
 {
-    if offset == 0 {
-        return Location::Byte(PROFILE_LAST);
+    match offset {
+        0 => Some(PROFILE_LAST),
+        _ => profile.get(offset as usize).copied(),
     }
-    if PROFILE_LEN <= offset {
-        return Location::Nothing;
-    }
-    let at = offset as usize;
-    Location::Byte(profile[at])
 }
 
 // A `bare` gear implements no indicator byte (part 102, table 8). In bank 0 that offset is reserved on every gear.
+#[tactic(auto, unfolding(crate::specs::Memory::lacks_indicator_byte))]
 pub fn lacks_indicator_byte(bare: bool, bank: u8, offset: u8) -> bool
     ensures { result ≡ lacks_indicator_byte bare bank offset }
 {
-    if bare {
-        if bank == MEMORY_BANK_IDENTITY {
-            return false;
-        }
-        return offset == INDICATOR_BYTE;
-    }
-    false
+    bare && bank != MEMORY_BANK_IDENTITY && offset == INDICATOR_BYTE
 }
 
-// What a read of a location answers (part 102, 9.10.4). Banks above 1 have none.
-pub fn memory_location(banks: Banks, bare: bool, bank: u8, offset: u8) -> Location
+// What a read of a location answers, if anything (part 102, 9.10.4). Banks above 1 have none.
+#[tactic(auto, unfolding(crate::specs::Memory::memory_location))]
+pub fn memory_location(banks: Banks, bare: bool, bank: u8, offset: u8) -> Option<u8>
     ensures { result ≡ memory_location banks bare bank offset }
 {
     if lacks_indicator_byte(bare, bank, offset) {
-        return Location::Nothing;
+        return None;
     }
-    if bank == MEMORY_BANK_IDENTITY {
-        let identity = banks.identity;
-        return identity_location(identity, offset);
+    match bank {
+        MEMORY_BANK_IDENTITY => identity_location(banks.identity, offset),
+        MEMORY_BANK_PROFILE => profile_location(banks.profile, offset),
+        _ => None,
     }
-    if bank == MEMORY_BANK_PROFILE {
-        let profile = banks.profile;
-        return profile_location(profile, offset);
-    }
-    Location::Nothing
 }
 
 pub fn implements_bank(bank: u8) -> bool
@@ -117,69 +84,55 @@ pub fn implements_bank(bank: u8) -> bool
 }
 
 // Whether a read moves DTR0 on (part 102, 9.10.4). A gear that `holds` it moves it only past a location that answers.
+#[tactic(auto, unfolding(crate::specs::Memory::advances_dtr0_past))]
 pub fn advances_dtr0_past(banks: Banks, bare: bool, holds: bool, bank: u8, offset: u8) -> bool
     ensures { result ≡ advances_dtr0_past banks bare holds bank offset }
 {
-    if implements_bank(bank) {
-        if holds {
-            return is_byte(memory_location(banks, bare, bank, offset));
-        }
-        return true;
-    }
-    false
+    implements_bank(bank) && (!holds || memory_location(banks, bare, bank, offset).is_some())
 }
 
 // Part 102, table 8: the lock byte itself is always writable, and what follows it where it says so.
+#[tactic(auto, unfolding(crate::specs::Memory::profile_writable))]
 fn profile_writable(profile: [u8; 17], offset: u8) -> bool
     ensures { result ≡ profile_writable profile offset }
 {
-    if offset < LOCK_BYTE {
-        return false;
-    }
-    if PROFILE_LAST < offset {
-        return false;
-    }
-    if offset == LOCK_BYTE {
-        return true;
-    }
-    profile[LOCK_BYTE as usize] == UNLOCKED
+    (LOCK_BYTE..=PROFILE_LAST).contains(&offset)
+        && (offset == LOCK_BYTE || profile[LOCK_BYTE as usize] == UNLOCKED)
 }
 
 // Only bank 1 has locations that can be written.
+#[tactic(auto, unfolding(crate::specs::Memory::writable))]
 fn writable(banks: Banks, bank: u8, offset: u8) -> bool
     ensures { result ≡ writable banks bank offset }
 {
-    if bank == MEMORY_BANK_PROFILE {
-        let profile = banks.profile;
-        return profile_writable(profile, offset);
-    }
-    false
+    bank == MEMORY_BANK_PROFILE && profile_writable(banks.profile, offset)
 }
 
-// Offsets past the bank store nothing.
-pub fn store_profile(profile: [u8; 17], offset: u8, value: u8) -> [u8; 17]
-    ensures { result ≡ store_profile profile offset value }
+// Offsets past the end store nothing.
+pub fn stored_at<const N: usize>(mut bytes: [u8; N], offset: u8, value: u8) -> [u8; N]
+    ensures { result ≡ stored_at N bytes.entry offset value }
 {
-    if PROFILE_LEN <= offset {
-        return profile;
-    }
-    let mut next = profile;
     let at = offset as usize;
-    next[at] = value;
-    next
+    if at < N {
+        bytes[at] = value;
+    }
+    bytes
 }
 
 // `unstored` is an injected fault: nothing is stored, and the write is answered all the same.
+#[tactic(auto, unfolding(crate::specs::Memory::stored, crate::specs::Memory::store_profile))]
 fn stored(profile: [u8; 17], unstored: bool, offset: u8, value: u8) -> [u8; 17]
     ensures { result ≡ stored profile unstored offset value }
 {
     if unstored {
-        return profile;
+        profile
+    } else {
+        stored_at(profile, offset, value)
     }
-    store_profile(profile, offset, value)
 }
 
 // Part 102, 9.10.5. A write is answered with the value, or not at all. Write enable is not asked for.
+#[tactic(auto, unfolding(crate::specs::Memory::write_memory_location))]
 pub fn write_memory_location(
     banks: Banks,
     unstored: bool,
@@ -190,14 +143,14 @@ pub fn write_memory_location(
     ensures { result ≡ write_memory_location banks unstored bank offset value }
 {
     if writable(banks, bank, offset) {
-        let profile = banks.profile;
-        return Written {
-            answer: Location::Byte(value),
-            banks: banks.with_profile(stored(profile, unstored, offset, value)),
-        };
-    }
-    Written {
-        answer: Location::Nothing,
-        banks: banks,
+        Written {
+            answer: Some(value),
+            banks: banks.with_profile(stored(banks.profile, unstored, offset, value)),
+        }
+    } else {
+        Written {
+            answer: None,
+            banks,
+        }
     }
 }

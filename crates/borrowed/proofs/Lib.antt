@@ -1,1 +1,2 @@
+pub mod AnswerType
 pub mod Stored

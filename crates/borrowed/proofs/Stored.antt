@@ -29,34 +29,33 @@ use denote.Struct.Laws as LL
 use denote.Enum.Laws as EL
 use denote.Triple.Statement.{Contract, Triple}
 use denote.Triple.Call.{calls_at}
-use Rattle.gear.specs.declared.answer.Answer.{Answer}
 use Rattle.gear.specs.declared.answer.Outcome.{Outcome}
 use Rattle.gear.specs.declared.record.Gear.{Gear}
+use Rattle.gear.specs.Answer.{Answer}
 use Rattle.gear.specs.contracts.record.Gear as G
 use Rattle.gear.proofs.record.Gear.TheLaws as G'
 use Rattle.gear.specs.contracts.answer.Outcome as O
 use Rattle.gear.proofs.answer.Outcome.TheLaws as O'
-use Rattle.gear.specs.contracts.answer.Answer as R
-use Rattle.gear.proofs.answer.Answer.TheLaws as R'
+use Rattle.borrowed.proofs.AnswerType as R
 
 -- the machine values of a record, of an answer, and of an outcome's two fields
 abbrev pub gear_val : Gear → Val
 gear_val = LL.val G.the_type G'.the_laws
 
 abbrev pub answer_val : Answer → Val
-answer_val = EL.val R.the_type R'.the_laws
+answer_val = EL.val R.the_type R.the_laws
 
 abbrev outcome_vals : Outcome → Vals
 outcome_vals r = vcons (answer_val r.answer) (vcons (gear_val r.gear) vnil)
 
 -- an outcome's fields, and where they lie
 abbrev outcome_fields : Tys
-outcome_fields = tcons R'.mir (tcons G'.mir tnil)
+outcome_fields = tcons R.mir (tcons G'.mir tnil)
 
-answer_at_lem : field_of O'.mir 0 ≡ some_at (R'.mir, 0)
+answer_at_lem : field_of O'.mir 0 ≡ some_at (R.mir, 0)
 answer_at_lem = refl
 
-gear_at : field_of O'.mir 1 ≡ some_at (G'.mir, 4)
+gear_at : field_of O'.mir 1 ≡ some_at (G'.mir, 8)
 gear_at = refl
 
 -- what is known of an outcome is known of its fields
@@ -67,8 +66,8 @@ gear_is : (r : Outcome) (vs : List Val) → Is O.the_row r vs → Is G.the_row r
 gear_is r vs p = (LL.owed O.the_type O'.the_laws r vs p).1.0
 
 module _ {M : Type 1} {𝓤 : Ura M} (𝓛 : Logic 𝓤) where
-  answer_typed : (a : Answer) → Is R.the_row a (answer_val a ∷ []) → Holds (has_ty R'.mir (answer_val a)) × WT (answer_val a)
-  answer_typed a p = ((EL.lawful R.the_type R'.the_laws 𝓛 tt).typed a _ p).0
+  answer_typed : (a : Answer) → Is R.the_row a (answer_val a ∷ []) → Holds (has_ty R.mir (answer_val a)) × WT (answer_val a)
+  answer_typed a p = ((EL.lawful R.the_type R.the_laws 𝓛 tt).typed a _ p).0
 
   gear_typed : (g : Gear) → Is G.the_row g (gear_val g ∷ []) → Holds (has_ty G'.mir (gear_val g)) × WT (gear_val g)
   gear_typed g p = ((LL.lawful G.the_type G'.the_laws 𝓛).typed g _ p).0
@@ -99,7 +98,7 @@ function more f xs = record {
   ty_params = [];
   givens = 0;
   params = 1 + length more;
-  locals = local R'.mir value_local ∷ local Ref value_local ∷ more ++ (local O'.mir value_local ∷ local G'.mir value_local ∷ []);
+  locals = local R.mir value_local ∷ local Ref value_local ∷ more ++ (local O'.mir value_local ∷ local G'.mir value_local ∷ []);
   body = body f xs (2 + length more) (3 + length more);
 }
 
@@ -110,7 +109,7 @@ lent 𝓤 κ q b o γ g Γ = ‵ (fobs γ ((G.the_row).coded.code g)) ∷ ‵ (f
 
 -- the locals where they stand: the result, the reference, and the rest
 abbrev locals_at : {M : Type 1} (𝓤 : Ura M) (H : Heap 𝓤) → ℕ → ℕ → Env 𝓤 H → Env 𝓤 H
-locals_at 𝓤 H l₀ l₁ E = (R'.mir, l₀) ∷ (Ref, l₁) ∷ E
+locals_at 𝓤 H l₀ l₁ E = (R.mir, l₀) ∷ (Ref, l₁) ∷ E
 
 -- what the callee hands back at the machine value v: an outcome, which is the rule's
 abbrev Back : {M : Type 1} {𝓤 : Ura M} (𝓛 : Logic 𝓤) → Outcome → Val → SProp 𝓤
@@ -119,16 +118,16 @@ Back {𝓤 = 𝓤} 𝓛 rule v = 𝓛.H.⇛ (ex 𝓤 (λ (r : Outcome). sep 𝓤
 module _ {M : Type 1} (𝓤 : Ura M) (l₁ l-arg l-out l₀ : ℕ) (Γ : List (Item 𝓤)) where
   -- the locals before the first statement, and after the last
   abbrev before : ℕ → ℕ → List (Item 𝓤)
-  before b o = ‵ (fat full_share Ref l₁ zero (vptr b o)) ∷ ‵ (froom G'.mir l-arg zero) ∷ ‵ (froom O'.mir l-out zero) ∷ ‵ (froom R'.mir l₀ zero) ∷ Γ
+  before b o = ‵ (fat full_share Ref l₁ zero (vptr b o)) ∷ ‵ (froom G'.mir l-arg zero) ∷ ‵ (froom O'.mir l-out zero) ∷ ‵ (froom R.mir l₀ zero) ∷ Γ
 
   abbrev after : List (Item 𝓤)
-  after = ‵ (froom Ref l₁ zero) ∷ ‵ (froom G'.mir l-arg zero) ∷ ‵ (froom O'.mir l-out zero) ∷ ‵ (froom R'.mir l₀ zero) ∷ Γ
+  after = ‵ (froom Ref l₁ zero) ∷ ‵ (froom G'.mir l-arg zero) ∷ ‵ (froom O'.mir l-out zero) ∷ ‵ (froom R.mir l₀ zero) ∷ Γ
 
   -- what the operands of the call are read from
   abbrev during : Lft → Share → ℕ → ℕ → GName → Gear → SProp 𝓤 → List (Item 𝓤)
   during κ q b o γ h P =
       raw P ∷ ‵ (cell_at full_share (G.the_row).mir (gear_val h ∷ []) b o) ∷ ‵ (fobor κ q (Borrowed (mem G.the_row) b o γ)) ∷ ‵ (fobs γ ((G.the_row).coded.code h)) ∷ ‵ (fauth γ ((G.the_row).coded.code h)) ∷
-      ‵ (fat full_share Ref l₁ zero (vptr b o)) ∷ ‵ (fat full_share G'.mir l-arg zero (gear_val h)) ∷ ‵ (froom O'.mir l-out zero) ∷ ‵ (froom R'.mir l₀ zero) ∷ Γ
+      ‵ (fat full_share Ref l₁ zero (vptr b o)) ∷ ‵ (fat full_share G'.mir l-arg zero (gear_val h)) ∷ ‵ (froom O'.mir l-out zero) ∷ ‵ (froom R.mir l₀ zero) ∷ Γ
 
 module _ {M : Type 1} {𝓤 : Ura M} {𝓛 : Logic 𝓤} {K : Type 0} {C : Calls 𝓤 𝓛.H} {Λ : Loops 𝓤 𝓛.H} {κ : Lft} {q : Share} {b o : ℕ} {γ : GName} {E : Env 𝓤 𝓛.H} {l₁ l-arg l-out l₀ : ℕ} {Γ : List (Item 𝓤)} {out arg : ℕ} {f : Callee} {xs : List Operand} {Kf : Val → SProp 𝓤} where
   open 𝓛 use {H}
@@ -149,9 +148,9 @@ module _ {M : Type 1} {𝓤 : Ura M} {𝓛 : Logic 𝓤} {K : Type 0} {C : Calls
       -- [the record's cell; the open borrow; obs; auth; _1; arg; out; _0; the rest]
       land t (from_at t at_out (stop t)) (init t 6 refl ((LL.lawful O.the_type O'.the_laws 𝓛).typed r (v ∷ []) is').0) $
       rewrite t 6 (λ (u : Val). ‵ (fat full_share O'.mir l-out zero u)) (ap only (LL.tells O.the_type O'.the_laws r (v ∷ []) is')) refl $
-      assigns t (of_opd t (load t (from_at t at_out (fld t {τ = G'.mir} {d = 4} gear_at (stop t))) (look_in t 6 (sub t {τs = outcome_fields} {vs = outcome_vals r} 1 {τ = G'.mir} {d = 4} gear_at (whole t)))))
+      assigns t (of_opd t (load t (from_at t at_out (fld t {τ = G'.mir} {d = 8} gear_at (stop t))) (look_in t 6 (sub t {τs = outcome_fields} {vs = outcome_vals r} 1 {τ = G'.mir} {d = 8} gear_at (whole t)))))
       (from t (hop t (look t 4 refl) (stop t))) (store_raw t 0 refl (gear_typed 𝓛 r.gear (gear_is r (v ∷ []) is'))) $
-      assigns t (of_opd t (load t (from_at t at_out (fld t {τ = R'.mir} {d = 0} answer_at_lem (stop t))) (look_in t 6 (sub t {τs = outcome_fields} {vs = outcome_vals r} 0 {τ = R'.mir} {d = 0} answer_at_lem (whole t)))))
+      assigns t (of_opd t (load t (from_at t at_out (fld t {τ = R.mir} {d = 0} answer_at_lem (stop t))) (look_in t 6 (sub t {τs = outcome_fields} {vs = outcome_vals r} 0 {τ = R.mir} {d = 0} answer_at_lem (whole t)))))
       (from t (stop t)) (init t 7 refl (answer_typed 𝓛 r.answer (answer_is r (v ∷ []) is'))) $
       owned t G.the_row (Is G.the_row) (LL.makes G.the_type G'.the_plain 𝓛) r.gear (gear_val r.gear ∷ []) (gear_is r (v ∷ []) is') $ move t (1 ∷ 0 ∷ []) $ closes t tt G.the_row r.gear (gear_val r.gear ∷ []) b o $
       -- [obs; the borrow; the token; _1; arg; out; _0; the rest]
@@ -173,7 +172,7 @@ module _ {M : Type 1} {𝓤 : Ura M} (𝓛 : Logic 𝓤) (P : Fml) where
     leaves had r is =
         qed 𝓛 (lent 𝓤 κ q b o γ r.gear []) ∵ nothing ! $ move ! (3 ∷ 0 ∷ []) $ join ! $ frame ! $
         feq_i ! (List Val) (vptr b o ∷ []) (vptr b o ∷ []) refl $ fjoin3 ! $ use0 𝓛 (‵ P) had $ move ! (1 ∷ 0 ∷ []) $ fjoin ! $
-        owned ! R.the_row (Is R.the_row) (EL.makes R.the_type R'.the_plain 𝓛) r.answer (answer_val r.answer ∷ []) is $ move ! (1 ∷ 0 ∷ []) $ done !
+        owned ! R.the_row (Is R.the_row) (EL.makes R.the_type R.the_plain 𝓛) r.answer (answer_val r.answer ∷ []) is $ move ! (1 ∷ 0 ∷ []) $ done !
 
   pub passed : ent 𝓤 (emp 𝓤) (sem 𝓛 P) → (h : Gear) → ent 𝓤 (sem 𝓛 ((G.the_row).own_val h (gear_val h ∷ []))) (sep 𝓤 (sep 𝓤 (emp 𝓤) (sem 𝓛 (fsep ((G.the_row).own_val h (gear_val h ∷ [])) P))) (emp 𝓤))
   passed had h = qed 𝓛 (‵ ((G.the_row).own_val h (gear_val h ∷ [])) ∷ []) ∵ use0 𝓛 (‵ P) had $ move ! (1 ∷ 0 ∷ []) $ fjoin ! $ nothing ! $ join ! $ nothing ! $ move ! (1 ∷ 0 ∷ []) $ done !

@@ -4,20 +4,20 @@ use Prim.Native.Nat.{ℕ}
 use mathlib.Core.Path.{◌≡◌, refl}
 use mathlib.Core.List.{[]}
 use lib.Dec.{eqb, leb}
+use Rattle.std.specs.Prelude.{Option, None, Some}
 use Rattle.bank.specs.declared.build.Banks.{Banks}
-use Rattle.gear.specs.declared.answer.Answer.{Answer}
 use Rattle.gear.specs.declared.answer.Outcome.{Outcome}
 use Rattle.gear.specs.declared.command.ConfigCommand.{ConfigCommand}
 use Rattle.gear.specs.declared.command.ConfigCommand.TheVariants.{SetMaxLevel, SetMinLevel, SetSystemFailureLevel, SetPowerOnLevel, SetFadeTime, SetFadeRate, SetExtendedFadeTime, SetScene, RemoveScene, AddToGroup, RemoveFromGroup}
+use Rattle.std.specs.Prelude.{Option, Some, None}
 use Rattle.gear.specs.declared.command.StandardCommand.{StandardCommand}
-use Rattle.gear.specs.declared.command.StandardCommand.TheVariants.{Arc, GoToScene, Reset, IdentifyDevice, Config, EnableWriteMemory, Unknown}
+use Rattle.gear.specs.declared.command.StandardCommand.TheVariants.{Arc, GoToScene, Reset, IdentifyDevice, Config, EnableWriteMemory}
 use Rattle.gear.specs.declared.record.Gear.{Gear}
 use Rattle.gear.specs.Command.{command_of}
 use Rattle.gear.specs.Record.{fitb}
 use Rattle.gear.specs.Serve.{serve, tell}
 use Rattle.gear.specs.Write.{apply_standard_write, arc_write, config_write, direct_arc_power, enable_write, identify, recall_scene, remove_scene, set_min, set_power_on_level, set_scene, set_system_failure_level, write}
-use Rattle.gear.specs.declared.marks.Walk.{Walk}
-use Rattle.gear.specs.declared.marks.Walk.TheVariants.{Off, At}
+use Rattle.gear.specs.Answer.{Answer}
 use Rattle.gear.specs.Parts.{with_banks}
 use Rattle.query.specs.Reply.{gear_query_reply, heard_query, is_query, query, reported, report_for}
 use Rattle.query.specs.Walk.{device_type, next, next_at, next_device_type}
@@ -63,15 +63,15 @@ config_alike g b (RemoveScene s) d = refl
 config_alike g b (AddToGroup n) d = refl
 config_alike g b (RemoveFromGroup n) d = refl
 
-write_alike : (g : Gear) (b : Banks) (k : StandardCommand) (d : ℕ) → Alike (write (with_banks g b) k d) (write g k d)
+write_alike : (g : Gear) (b : Banks) (k : Option StandardCommand) (d : ℕ) → Alike (write (with_banks g b) k d) (write g k d)
 unfolding write arc_write recall_scene identify enable_write
-write_alike g b (Arc a) d = record { answer = refl; rest = refl }
-write_alike g b (GoToScene s) d = record { answer = refl; rest = refl }
-write_alike g b Reset d = record { answer = refl; rest = refl }
-write_alike g b IdentifyDevice d = record { answer = refl; rest = refl }
-write_alike g b (Config k) d = record { answer = refl; rest = config_alike g b k d }
-write_alike g b EnableWriteMemory d = record { answer = refl; rest = refl }
-write_alike g b Unknown d = record { answer = refl; rest = refl }
+write_alike g b (Some (Arc a)) d = record { answer = refl; rest = refl }
+write_alike g b (Some (GoToScene s)) d = record { answer = refl; rest = refl }
+write_alike g b (Some Reset) d = record { answer = refl; rest = refl }
+write_alike g b (Some IdentifyDevice) d = record { answer = refl; rest = refl }
+write_alike g b (Some (Config k)) d = record { answer = refl; rest = config_alike g b k d }
+write_alike g b (Some EnableWriteMemory) d = record { answer = refl; rest = refl }
+write_alike g b None d = record { answer = refl; rest = refl }
 
 pub standard_write_blind : (byte d : ℕ) → Blind (λ g. apply_standard_write g byte d)
 unfolding apply_standard_write
@@ -91,10 +91,10 @@ device_type_alike g b =
     by_cases (eqb g.unit.count 1) (λ t. rw (e, t) (record { answer = refl; rest = refl }))
     (λ t. rw (e, t) (record { answer = refl; rest = refl })))
 
-next_alike : (g : Gear) (b : Banks) (w : Walk) → Alike (next (with_banks g b) w) (next g w)
+next_alike : (g : Gear) (b : Banks) (w : Option ℕ) → Alike (next (with_banks g b) w) (next g w)
 unfolding next next_at
-next_alike g b Off = record { answer = refl; rest = refl }
-next_alike g b (At n) =
+next_alike g b None = record { answer = refl; rest = refl }
+next_alike g b (Some n) =
     by_cases (leb g.unit.count n) (λ e. rw e (record { answer = refl; rest = refl })) (λ e. rw e (record { answer = refl; rest = refl }))
 
 -- nothing that a query reports is read from a bank

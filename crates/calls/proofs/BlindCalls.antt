@@ -2,6 +2,7 @@
 use Prim.Native.Nat.{ℕ}
 use mathlib.Core.Path.{◌≡◌, refl}
 use mathlib.Core.Bool.{Bool}
+use Rattle.std.specs.declared.result.Result.TheVariants.{Ok}
 use Rattle.calls.specs.Address.{addressed, judged, matching, matches_call}
 use Rattle.calls.specs.Colours.{activate_call, automatic_call, color_value_call, colour_status_call, control_call, copy_report_call, feature_byte_call, features_call, recoloured, set_features_call, stage_call, store_tc_limit_call, tc_step_call, xy_step_call}
 use Rattle.calls.specs.declared.address.Address.{Address}
@@ -15,7 +16,7 @@ use Rattle.calls.proofs.Banks.{Alike, Blind, BlindRead, serve_alike, tell_alike}
 use Rattle.bank.specs.declared.build.Banks.{Banks}
 use Rattle.colour.specs.declared.record.Colour.{Colour}
 use Rattle.colour.specs.declared.setting.ColourSetting.{ColourSetting}
-use Rattle.gear.specs.declared.answer.Answer.TheVariants.{Done}
+use Rattle.gear.specs.declared.answer.Reply.TheVariants.{Done}
 use Rattle.gear.specs.declared.condition.Faults.{Faults}
 use Rattle.gear.specs.declared.record.Gear.{Gear}
 use Rattle.gear.specs.Parts.{with_banks}
@@ -26,7 +27,7 @@ unfolding recoloured
 recoloured_alike g b c = serve_alike g b _ _ (record { answer = refl; rest = refl })
 
 -- whatever banks a setter leaves
-rebanked_alike : (g : Gear) (b n m : Banks) → Alike (rebanked (with_banks g b) Done n) (rebanked g Done m)
+rebanked_alike : (g : Gear) (b n m : Banks) → Alike (rebanked (with_banks g b) (Ok Done) n) (rebanked g (Ok Done) m)
 unfolding rebanked
 rebanked_alike g b n m = serve_alike g b _ _ (record { answer = refl; rest = refl })
 

@@ -2,6 +2,8 @@
 use Prim.Native.Nat.{ℕ, ◌<◌}
 use mathlib.Core.Path.{◌≡◌, refl}
 use mathlib.Core.Bool.{Bool, true}
+use Rattle.std.specs.Prelude.{Option, None}
+use Rattle.std.specs.declared.result.Result.TheVariants.{Ok}
 use Rattle.calls.specs.Colours.{recoloured, tc_step_call, xy_step_call, store_tc_limit_call, stage_call, activate_call, copy_report_call, set_features_call}
 use Rattle.calls.specs.Memory.{rebanked, write_memory_call, set_lock_call, set_location_call, set_unit_call, set_last_call, clear_number_call}
 use Rattle.calls.specs.Pairing.{waits, is_open, waiting, heard_answer, paired, hear, hear_call, hear_elsewhere_call}
@@ -13,11 +15,8 @@ use Rattle.colour.specs.declared.setting.ColourSetting.{ColourSetting}
 use Rattle.colour.proofs.Fit as ColourFit
 use Rattle.colour.proofs.Kept as ColourKept
 use Rattle.colour.proofs.KeptLimits as ColourLimits
-use Rattle.gear.specs.Answer.{done}
-use Rattle.gear.specs.declared.answer.Answer.{Answer}
-use Rattle.gear.specs.declared.answer.Answer.TheVariants.{Done, Value}
-use Rattle.gear.specs.declared.marks.Pair.{Pair}
-use Rattle.gear.specs.declared.marks.Pair.TheVariants.{Closed}
+use Rattle.gear.specs.Answer.{Answer, done}
+use Rattle.gear.specs.declared.answer.Reply.TheVariants.{Done, Value}
 use Rattle.gear.specs.declared.condition.Faults.{Faults}
 use Rattle.gear.specs.declared.record.Gear.{Gear}
 use Rattle.gear.specs.Marks.{walk_fit}
@@ -77,33 +76,33 @@ write_memory_kept g bank offset v = rebanked_kept g _ _
 
 pub set_lock_kept : (g : Gear) (v : ℕ) → fitb g ≡ true → fitb (set_lock_call g v).gear ≡ true
 unfolding set_lock_call
-set_lock_kept g v = rebanked_kept g Done _
+set_lock_kept g v = rebanked_kept g (Ok Done) _
 
 pub set_location_kept : (g : Gear) (offset v : ℕ) → fitb g ≡ true → fitb (set_location_call g offset v).gear ≡ true
 unfolding set_location_call
-set_location_kept g offset v = rebanked_kept g Done _
+set_location_kept g offset v = rebanked_kept g (Ok Done) _
 
 pub set_unit_kept : (g : Gear) (units index : ℕ) → fitb g ≡ true → fitb (set_unit_call g units index).gear ≡ true
 unfolding set_unit_call
-set_unit_kept g units index = rebanked_kept g Done _
+set_unit_kept g units index = rebanked_kept g (Ok Done) _
 
 pub set_last_kept : (g : Gear) (last : ℕ) → fitb g ≡ true → fitb (set_last_call g last).gear ≡ true
 unfolding set_last_call
-set_last_kept g last = rebanked_kept g Done _
+set_last_kept g last = rebanked_kept g (Ok Done) _
 
 pub clear_number_kept : (g : Gear) → fitb g ≡ true → fitb (clear_number_call g).gear ≡ true
 unfolding clear_number_call
-clear_number_kept g = rebanked_kept g Done _
+clear_number_kept g = rebanked_kept g (Ok Done) _
 
 -- ---- pairs, power and setters
 
-paired_kept : (g : Gear) (a : Answer) (p : Pair) → GearFit g → GearFit (paired g a p).gear
+paired_kept : (g : Gear) (a : Answer) (p : Option ℕ) → GearFit g → GearFit (paired g a p).gear
 paired_kept g a p f = record { unit = f.unit; levels = f.levels; colour = f.colour; walk = f.walk }
 
 hears_kept : (g : Gear) (frame : ℕ) (repeats : Bool) → GearFit g → GearFit (hear g frame repeats).gear
 unfolding hear
 hears_kept g frame repeats f =
-    by_cases (waits g.marks.pair frame) (λ e. rw e (paired_kept g (Value 3) Closed f))
+    by_cases (waits g.marks.pair frame) (λ e. rw e (paired_kept g (Ok (Value 3)) None f))
     (λ e. rw e (paired_kept g (heard_answer repeats (is_open g.marks.pair)) (waiting frame repeats) f))
 
 pub hear_kept : (g : Gear) (frame : ℕ) (repeats : Bool) → fitb g ≡ true → fitb (hear_call g frame repeats).gear ≡ true

@@ -9,10 +9,10 @@ use Rattle.calls.specs.Setters.{set_enabled_call, set_faults_call, set_lamp_fail
 use Rattle.bank.specs.declared.build.Banks.{Banks}
 use Rattle.colour.specs.declared.record.Colour.{Colour}
 use Rattle.colour.specs.declared.setting.ColourSetting.{ColourSetting}
-use Rattle.gear.specs.declared.answer.Answer.{Answer}
 use Rattle.gear.specs.declared.answer.Outcome.{Outcome}
 use Rattle.gear.specs.declared.condition.Faults.{Faults}
 use Rattle.gear.specs.declared.record.Gear.{Gear}
+use Rattle.gear.specs.Answer.{Answer}
 use Rattle.gear.specs.Parts.{written}
 use Rattle.gear.specs.Record.{fitb}
 use Rattle.gear.specs.Serve.{serve}

@@ -1,22 +1,18 @@
 -- Whom a frame is for (part 102, 7.2).
-use Rattle.std.specs.Prelude.{ℕ, Bool, true, false, eqb, ltb}
+use Rattle.std.specs.Prelude.{ℕ, Bool, true, false, eqb, ltb, Err, Option, None, Some}
 use Rattle.calls.specs.declared.address.Address.{Address}
 use Rattle.calls.specs.declared.address.Address.TheVariants.{Short, Group, Broadcast, Unaddressed}
-use Rattle.gear.specs.Answer.{flag}
-use Rattle.gear.specs.declared.answer.Answer.{Answer}
-use Rattle.gear.specs.declared.answer.Answer.TheVariants.{Refused}
+use Rattle.gear.specs.Answer.{Answer, flag}
 use Rattle.gear.specs.declared.answer.Refusal.TheVariants.{Group as GroupRefused}
-use Rattle.gear.specs.declared.profile.Short.{Short as ShortAddress}
-use Rattle.gear.specs.declared.profile.Short.TheVariants.{Missing, Address as Own}
 use Rattle.gear.specs.declared.record.Gear.{Gear}
 use Rattle.gear.specs.Scene.{member_at}
 use Rattle.gear.specs.Serve.{tell}
 use Rattle.numbers.specs.Numbers.{pick}
 use Rattle.query.specs.Status.{missing}
 
-unfoldable pub is_short : ShortAddress → ℕ → Bool
-is_short Missing a = false
-is_short (Own own) a = eqb own a
+unfoldable pub is_short : Option ℕ → ℕ → Bool
+is_short None a = false
+is_short (Some own) a = eqb own a
 
 unfoldable pub addressed : Gear → Address → Bool
 addressed g (Short a) = is_short g.unit.short a
@@ -36,7 +32,7 @@ beyond Unaddressed = false
 
 -- refusal 4, at a gear that is not enabled too
 unfoldable pub judged : Gear → Address → Answer
-judged g a = pick (beyond a) (Refused GroupRefused) (matching g a)
+judged g a = pick (beyond a) (Err GroupRefused) (matching g a)
 
 unfoldable pub matches_call : Gear → Address → Answer
 matches_call g a = tell g (judged g a)

@@ -1,5 +1,5 @@
 -- Colour calls on a record: colour's rules under the fit test.
-use Rattle.std.specs.Prelude.{ℕ, Bool}
+use Rattle.std.specs.Prelude.{ℕ, Bool, Ok}
 use Rattle.colour.specs.Activation.{activate, automatic}
 use Rattle.colour.specs.declared.record.Colour.{Colour}
 use Rattle.colour.specs.declared.setting.ColourSetting.{ColourSetting}
@@ -7,9 +7,8 @@ use Rattle.colour.specs.Record.{with_features}
 use Rattle.colour.specs.Staging.{copy_report, load_temporaries_from}
 use Rattle.colour.specs.Steps.{store_tc_limit, tc_step, xy_step}
 use Rattle.colour.specs.Value.{color_value, colour_status, control_byte, features}
-use Rattle.gear.specs.Answer.{done, flag, unexplained, value_answer}
-use Rattle.gear.specs.declared.answer.Answer.{Answer}
-use Rattle.gear.specs.declared.answer.Answer.TheVariants.{Value}
+use Rattle.gear.specs.Answer.{Answer, done, flag, unexplained, value_answer}
+use Rattle.gear.specs.declared.answer.Reply.TheVariants.{Value}
 use Rattle.gear.specs.declared.answer.Outcome.{Outcome}
 use Rattle.gear.specs.declared.record.Gear.{Gear}
 use Rattle.gear.specs.Parts.{with_colour}
@@ -43,17 +42,17 @@ unfoldable pub color_value_call : Gear → ℕ → Answer
 color_value_call g id = tell g (value_answer (color_value g.colour id))
 
 unfoldable pub colour_status_call : Gear → Answer
-colour_status_call g = tell g (Value (colour_status g.colour))
+colour_status_call g = tell g (Ok (Value (colour_status g.colour)))
 
 unfoldable pub features_call : Gear → Answer
-features_call g = tell g (Value (features g.colour))
+features_call g = tell g (Ok (Value (features g.colour)))
 
 -- a query of the bus: a gear without channels has no answer to it
 unfoldable pub control_call : Gear → Answer
 control_call g = tell g (unexplained (value_answer (control_byte g.colour)))
 
 unfoldable pub feature_byte_call : Gear → Answer
-feature_byte_call g = tell g (Value g.colour.features)
+feature_byte_call g = tell g (Ok (Value g.colour.features))
 
 unfoldable pub automatic_call : Gear → Answer
 automatic_call g = tell g (flag (automatic g.colour))

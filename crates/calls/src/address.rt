@@ -1,13 +1,11 @@
 // Whom a frame is for (part 102, 7.2).
 ghost use Rattle.std.specs.Prelude.{◌≡◌};
-ghost use Rattle.calls.specs.Address.{is_short, addressed, matching, beyond, judged, matches_call};
+ghost use Rattle.calls.specs.Address.{addressed, matching, beyond, judged, matches_call};
 
 use gear::answer::{Answer, Refusal, flag};
-use gear::profile::Short;
 use gear::record::Gear;
 use gear::scene::is_member;
 use gear::serve::tell;
-use query::status::is_missing;
 
 #[derive(Clone, Copy)]
 pub enum Address {
@@ -18,60 +16,47 @@ pub enum Address {
 }
 
 // An address above 63 is no gear's.
-pub fn is_short(short: Short, address: u8) -> bool
-    ensures { result ≡ is_short short address }
-{
-    match short {
-        Short::Missing => false,
-        Short::Address(own) => own == address,
-    }
-}
-
+#[tactic(auto, unfolding(crate::specs::Address::addressed, crate::specs::Address::is_short, query::specs::Status::missing))]
 fn addressed(gear: Gear, address: Address) -> bool
     ensures { result ≡ addressed gear address }
 {
-    let unit = gear.unit;
-    let short = unit.short;
+    let short = gear.unit.short;
     let groups = gear.settings.groups;
     match address {
-        Address::Short(number) => is_short(short, number),
+        Address::Short(number) => short == Some(number),
         Address::Group(group) => is_member(groups, group),
         Address::Broadcast => true,
-        Address::Unaddressed => is_missing(short),
+        Address::Unaddressed => short.is_none(),
     }
 }
 
 // A gear that is not enabled is addressed by nothing.
+#[tactic(auto, unfolding(crate::specs::Address::matching))]
 fn matching(gear: Gear, address: Address) -> Answer
     ensures { result ≡ matching gear address }
 {
-    if gear.condition.enabled {
-        return flag(addressed(gear, address));
-    }
-    flag(false)
+    flag(gear.condition.enabled && addressed(gear, address))
 }
 
 // There are sixteen groups.
+#[tactic(auto, unfolding(crate::specs::Address::beyond))]
 pub fn is_group_beyond(address: Address) -> bool
     ensures { result ≡ beyond address }
 {
-    match address {
-        Address::Short(_) => false,
-        Address::Group(group) => 15 < group,
-        Address::Broadcast => false,
-        Address::Unaddressed => false,
-    }
+    matches!(address, Address::Group(16..))
 }
 
+#[tactic(auto, unfolding(crate::specs::Address::judged))]
 fn judged(gear: Gear, address: Address) -> Answer
     ensures { result ≡ judged gear address }
 {
     if is_group_beyond(address) {
-        return Answer::Refused(Refusal::Group);
+        return Err(Refusal::Group);
     }
     matching(gear, address)
 }
 
+#[tactic(auto, unfolding(crate::specs::Address::matches_call))]
 pub fn matches(gear: Gear, address: Address) -> Answer
     ensures { result ≡ matches_call gear address }
 {

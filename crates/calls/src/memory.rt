@@ -1,7 +1,8 @@
 // Memory calls: those of the bank library, under the fit test.
 ghost use Rattle.std.specs.Prelude.{◌≡◌};
-ghost use Rattle.calls.specs.Memory.{memory_location_call, write_memory_call, advances_call, implements_call, set_lock_call, set_location_call, set_unit_call, set_last_call, clear_number_call};
+ghost use Rattle.calls.specs.Memory.{rebanked, memory_location_call, write_memory_call, advances_call, implements_call, set_lock_call, set_location_call, set_unit_call, set_last_call, clear_number_call};
 
+use bank::build::Banks;
 use bank::memory::{
     advances_dtr0_past as advances, implements_bank as implements, memory_location as location,
     write_memory_location as write_location,
@@ -11,106 +12,94 @@ use bank::setters::{
     set_bank1_location as set_location, set_bank1_lock_byte as set_lock,
     set_logical_gear_unit as set_unit,
 };
-use gear::answer::{Answer, Outcome, Refusal, done, flag, location_answer, refused};
+use gear::answer::{Answer, Outcome, Reply, flag, location_answer};
 use gear::record::Gear;
-use gear::serve::tell;
+use gear::serve::{serve, tell};
 
+#[tactic(auto, unfolding(crate::specs::Memory::memory_location_call, gear::specs::Serve::tell))]
 pub fn memory_location(gear: Gear, bank: u8, offset: u8) -> Answer
     ensures { result ≡ memory_location_call gear bank offset }
 {
-    let banks = gear.banks;
     tell(
         gear,
-        location_answer(location(banks, gear.unit.bare, bank, offset)),
+        location_answer(location(gear.banks, gear.unit.bare, bank, offset)),
     )
+}
+
+// The answer, and the record with other banks, if it is fit.
+#[tactic(auto, unfolding(crate::specs::Memory::rebanked))]
+fn rebanked(gear: Gear, answer: Answer, banks: Banks) -> Outcome
+    ensures { result ≡ rebanked gear answer banks }
+{
+    let outcome = Outcome {
+        answer,
+        gear: Gear { banks, ..gear },
+    };
+    serve(gear, outcome)
 }
 
 // Write enable is not asked for.
+#[tactic(auto, unfolding(crate::specs::Memory::write_memory_call))]
 pub fn write_memory_location(gear: Gear, bank: u8, offset: u8, value: u8) -> Outcome
     ensures { result ≡ write_memory_call gear bank offset value }
 {
-    if gear.fit() {
-        let banks = gear.banks;
-        let written = write_location(banks, gear.condition.faults.unstored, bank, offset, value);
-        let found = written.answer;
-        let rest = written.banks;
-        let mut next = gear;
-        next.banks = rest;
-        return Outcome {
-            answer: location_answer(found),
-            gear: next,
-        };
-    }
-    refused(gear, Refusal::Unfit)
+    let unstored = gear.condition.faults.unstored;
+    let written = write_location(gear.banks, unstored, bank, offset, value);
+    rebanked(gear, location_answer(written.answer), written.banks)
 }
 
+#[tactic(auto, unfolding(crate::specs::Memory::advances_call, gear::specs::Serve::tell))]
 pub fn advances_dtr0_past(gear: Gear, bank: u8, offset: u8) -> Answer
     ensures { result ≡ advances_call gear bank offset }
 {
-    let banks = gear.banks;
     tell(
         gear,
-        flag(advances(banks, gear.unit.bare, gear.unit.holds, bank, offset)),
+        flag(advances(gear.banks, gear.unit.bare, gear.unit.holds, bank, offset)),
     )
 }
 
+#[tactic(auto, unfolding(crate::specs::Memory::implements_call, gear::specs::Serve::tell))]
 pub fn implements_bank(gear: Gear, bank: u8) -> Answer
     ensures { result ≡ implements_call gear bank }
 {
     tell(gear, flag(implements(bank)))
 }
 
+#[tactic(auto, unfolding(crate::specs::Memory::set_lock_call))]
 pub fn set_bank1_lock_byte(gear: Gear, value: u8) -> Outcome
     ensures { result ≡ set_lock_call gear value }
 {
-    if gear.fit() {
-        let mut next = gear;
-        next.banks = set_lock(next.banks, value);
-        return done(next);
-    }
-    refused(gear, Refusal::Unfit)
+    rebanked(gear, Ok(Reply::Done), set_lock(gear.banks, value))
 }
 
+#[tactic(auto, unfolding(crate::specs::Memory::set_location_call))]
 pub fn set_bank1_location(gear: Gear, offset: u8, value: u8) -> Outcome
     ensures { result ≡ set_location_call gear offset value }
 {
-    if gear.fit() {
-        let mut next = gear;
-        next.banks = set_location(next.banks, offset, value);
-        return done(next);
-    }
-    refused(gear, Refusal::Unfit)
+    rebanked(
+        gear,
+        Ok(Reply::Done),
+        set_location(gear.banks, offset, value),
+    )
 }
 
+#[tactic(auto, unfolding(crate::specs::Memory::set_unit_call))]
 pub fn set_logical_gear_unit(gear: Gear, units: u8, index: u8) -> Outcome
     ensures { result ≡ set_unit_call gear units index }
 {
-    if gear.fit() {
-        let mut next = gear;
-        next.banks = set_unit(next.banks, units, index);
-        return done(next);
-    }
-    refused(gear, Refusal::Unfit)
+    rebanked(gear, Ok(Reply::Done), set_unit(gear.banks, units, index))
 }
 
+#[tactic(auto, unfolding(crate::specs::Memory::set_last_call))]
 pub fn set_bank0_last_offset(gear: Gear, last: u8) -> Outcome
     ensures { result ≡ set_last_call gear last }
 {
-    if gear.fit() {
-        let mut next = gear;
-        next.banks = set_last(next.banks, last);
-        return done(next);
-    }
-    refused(gear, Refusal::Unfit)
+    rebanked(gear, Ok(Reply::Done), set_last(gear.banks, last))
 }
 
+#[tactic(auto, unfolding(crate::specs::Memory::clear_number_call))]
 pub fn clear_identification_number(gear: Gear) -> Outcome
     ensures { result ≡ clear_number_call gear }
 {
-    if gear.fit() {
-        let mut next = gear;
-        next.banks = clear_number(next.banks);
-        return done(next);
-    }
-    refused(gear, Refusal::Unfit)
+    rebanked(gear, Ok(Reply::Done), clear_number(gear.banks))
 }

@@ -1,115 +1,78 @@
 // Send-twice pairing (part 101, 9.3): a frame waits for its second copy.
 ghost use Rattle.std.specs.Prelude.{◌≡◌};
-ghost use Rattle.calls.specs.Pairing.{waits, is_open, waiting, heard_answer, paired, hear, hear_call, holds_call, hear_elsewhere_call};
+ghost use Rattle.calls.specs.Pairing.{heard_answer, paired, hear, hear_call, holds_call, hear_elsewhere_call};
 
-use gear::answer::{Answer, Outcome, Refusal, flag, refused};
-use gear::marks::{Pair, Walk};
+use gear::answer::{Answer, Outcome, Reply, flag};
 use gear::record::Gear;
-use gear::serve::tell;
-
-// The frame is the one that waits.
-fn waits(pair: Pair, frame: u16) -> bool
-    ensures { result ≡ waits pair frame }
-{
-    match pair {
-        Pair::Closed => false,
-        Pair::Open(open) => open == frame,
-    }
-}
-
-fn is_open(pair: Pair) -> bool
-    ensures { result ≡ is_open pair }
-{
-    match pair {
-        Pair::Closed => false,
-        Pair::Open(_) => true,
-    }
-}
-
-// What waits after a frame that completed no pair.
-fn waiting(frame: u16, repeats: bool) -> Pair
-    ensures { result ≡ waiting frame repeats }
-{
-    if repeats {
-        return Pair::Open(frame);
-    }
-    Pair::Closed
-}
+use gear::serve::{serve, tell};
 
 // Bit 0: the frame is carried out; bit 1: it completed a pair; bit 2: it split another one.
+#[tactic(auto, unfolding(crate::specs::Pairing::heard_answer))]
 pub fn heard_answer(repeats: bool, split: bool) -> Answer
     ensures { result ≡ heard_answer repeats split }
 {
-    if repeats {
-        if split {
-            return Answer::Value(4);
-        }
-        return Answer::Value(0);
-    }
-    if split {
-        return Answer::Value(5);
-    }
-    Answer::Value(1)
+    Ok(Reply::Value(match (repeats, split) {
+        (true, true) => 4,
+        (true, false) => 0,
+        (false, true) => 5,
+        (false, false) => 1,
+    }))
 }
 
-fn paired(gear: Gear, answer: Answer, pair: Pair) -> Outcome
+fn paired(gear: Gear, answer: Answer, pair: Option<u16>) -> Outcome
     ensures { result ≡ paired gear answer pair }
 {
-    let marks = gear.marks;
-    let mut next = gear;
-    next.marks = marks.with_pair(pair);
     Outcome {
-        answer: answer,
-        gear: next,
+        answer,
+        gear: Gear {
+            marks: gear.marks.with_pair(pair),
+            ..gear
+        },
     }
 }
 
+// The frame that waits completes its pair; any other splits it, and waits for its own second copy where it wants one.
+#[tactic(auto, unfolding(crate::specs::Pairing::hear, crate::specs::Pairing::is_open, crate::specs::Pairing::waiting, crate::specs::Pairing::waits))]
 fn heard(gear: Gear, frame: u16, repeats: bool) -> Outcome
     ensures { result ≡ hear gear frame repeats }
 {
-    let marks = gear.marks;
-    let pair = marks.pair;
-    if waits(pair, frame) {
-        return paired(gear, Answer::Value(3), Pair::Closed);
+    let pair = gear.marks.pair;
+    if pair == Some(frame) {
+        return paired(gear, Ok(Reply::Value(3)), None);
     }
     paired(
         gear,
-        heard_answer(repeats, is_open(pair)),
-        waiting(frame, repeats),
+        heard_answer(repeats, pair.is_some()),
+        repeats.then_some(frame),
     )
 }
 
 // A frame for this gear; `repeats` says that it wants a second copy.
+#[tactic(auto, unfolding(crate::specs::Pairing::hear_call, gear::specs::Serve::serve))]
 pub fn hear(gear: Gear, frame: u16, repeats: bool) -> Outcome
     ensures { result ≡ hear_call gear frame repeats }
 {
-    if gear.fit() {
-        return heard(gear, frame, repeats);
-    }
-    refused(gear, Refusal::Unfit)
+    serve(gear, heard(gear, frame, repeats))
 }
 
+#[tactic(auto, unfolding(crate::specs::Pairing::holds_call, crate::specs::Pairing::waits))]
 pub fn holds(gear: Gear, frame: u16) -> Answer
     ensures { result ≡ holds_call gear frame }
 {
-    let marks = gear.marks;
-    let pair = marks.pair;
-    tell(gear, flag(waits(pair, frame)))
+    tell(gear, flag(gear.marks.pair == Some(frame)))
 }
 
 // A frame for another gear ends the walk and an open pair, and says whether there was one.
+#[tactic(auto, unfolding(crate::specs::Pairing::hear_elsewhere_call, crate::specs::Pairing::is_open, gear::specs::Serve::serve))]
 pub fn hear_elsewhere(gear: Gear) -> Outcome
     ensures { result ≡ hear_elsewhere_call gear }
 {
-    if gear.fit() {
-        let marks = gear.marks;
-        let pair = marks.pair;
-        let mut next = gear;
-        next.marks = marks.with_walk(Walk::Off).with_pair(Pair::Closed);
-        return Outcome {
-            answer: flag(is_open(pair)),
-            gear: next,
-        };
-    }
-    refused(gear, Refusal::Unfit)
+    let outcome = Outcome {
+        answer: flag(gear.marks.pair.is_some()),
+        gear: Gear {
+            marks: gear.marks.with_walk(None).with_pair(None),
+            ..gear
+        },
+    };
+    serve(gear, outcome)
 }

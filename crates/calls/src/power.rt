@@ -2,28 +2,25 @@
 ghost use Rattle.std.specs.Prelude.{◌≡◌};
 ghost use Rattle.calls.specs.Power.{power_cycle, power_cycle_call};
 
-use gear::answer::{Outcome, Refusal, done, refused};
+use gear::answer::{Outcome, done};
 use gear::record::Gear;
+use gear::serve::serve;
 
+#[tactic(auto, unfolding(crate::specs::Power::power_cycle))]
 fn cycled(gear: Gear) -> Gear
     ensures { result ≡ power_cycle gear }
 {
-    let levels = gear.levels;
-    let marks = gear.marks;
-    let colour = gear.colour;
-    let stored = gear.settings.on.level;
-    let mut next = gear;
-    next.levels = levels.power_up(stored);
-    next.marks = marks.power_up();
-    next.colour = colour.power_up();
-    next
+    Gear {
+        levels: gear.levels.power_up(gear.settings.on.level),
+        marks: gear.marks.power_up(),
+        colour: gear.colour.power_up(),
+        ..gear
+    }
 }
 
+#[tactic(auto, unfolding(crate::specs::Power::power_cycle_call, gear::specs::Serve::serve))]
 pub fn power_cycle(gear: Gear) -> Outcome
     ensures { result ≡ power_cycle_call gear }
 {
-    if gear.fit() {
-        return done(cycled(gear));
-    }
-    refused(gear, Refusal::Unfit)
+    serve(gear, done(cycled(gear)))
 }

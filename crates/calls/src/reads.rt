@@ -2,7 +2,7 @@
 ghost use Rattle.std.specs.Prelude.{◌≡◌};
 ghost use Rattle.calls.specs.Reads.{status_call, lamp_on_call, failure_bits_call, thermal_call, lamp_failure_call, actual_level_call, type_call};
 
-use gear::answer::{Answer, flag};
+use gear::answer::{Answer, Reply, flag};
 use gear::record::Gear;
 use gear::serve::tell;
 use query::lamp::{
@@ -11,6 +11,7 @@ use query::lamp::{
 };
 use query::status::status_byte as status_of;
 
+#[tactic(auto, unfolding(crate::specs::Reads::status_call, gear::specs::Serve::tell))]
 pub fn status_byte(gear: Gear) -> Answer
     ensures { result ≡ status_call gear }
 {
@@ -21,9 +22,10 @@ pub fn status_byte(gear: Gear) -> Answer
         gear.condition.lamp,
         gear.condition.faults,
     );
-    tell(gear, Answer::Value(status as u16))
+    tell(gear, Ok(Reply::Value(u16::from(status))))
 }
 
+#[tactic(auto, unfolding(crate::specs::Reads::lamp_on_call, gear::specs::Serve::tell))]
 pub fn lamp_on(gear: Gear) -> Answer
     ensures { result ≡ lamp_on_call gear }
 {
@@ -40,25 +42,29 @@ pub fn lamp_on(gear: Gear) -> Answer
 
 // Part 207, bits 0 to 6: short circuit, open circuit, load decrease, load increase, current protector, thermal shut-down,
 // thermal overload.
+#[tactic(auto, unfolding(crate::specs::Reads::failure_bits_call, gear::specs::Serve::tell))]
 pub fn failure_bits(gear: Gear) -> Answer
     ensures { result ≡ failure_bits_call gear }
 {
     let bits = gear.condition.faults.failure % 128;
-    tell(gear, Answer::Value(bits as u16))
+    tell(gear, Ok(Reply::Value(u16::from(bits))))
 }
 
+#[tactic(auto, unfolding(crate::specs::Reads::thermal_call, gear::specs::Serve::tell))]
 pub fn thermal_shut_down(gear: Gear) -> Answer
     ensures { result ≡ thermal_call gear }
 {
     tell(gear, flag(shut(gear.unit, gear.condition.faults)))
 }
 
+#[tactic(auto, unfolding(crate::specs::Reads::lamp_failure_call, gear::specs::Serve::tell))]
 pub fn lamp_failure_from_207(gear: Gear) -> Answer
     ensures { result ≡ lamp_failure_call gear }
 {
     tell(gear, flag(fails(gear.unit, gear.condition.faults)))
 }
 
+#[tactic(auto, unfolding(crate::specs::Reads::actual_level_call, gear::specs::Serve::tell))]
 pub fn actual_level_answer(gear: Gear) -> Answer
     ensures { result ≡ actual_level_call gear }
 {
@@ -68,13 +74,13 @@ pub fn actual_level_answer(gear: Gear) -> Answer
         gear.condition.faults,
         gear.colour.active,
     );
-    tell(gear, Answer::Value(level as u16))
+    tell(gear, Ok(Reply::Value(u16::from(level))))
 }
 
 // Whether the type list has a code: 6 LED, 7 switching, 8 colour.
+#[tactic(auto, unfolding(crate::specs::Reads::type_call, gear::specs::Serve::tell))]
 pub fn is_type(gear: Gear, code: u8) -> Answer
     ensures { result ≡ type_call gear code }
 {
-    let unit = gear.unit;
-    tell(gear, flag(unit.is_type(code)))
+    tell(gear, flag(gear.unit.is_type(code)))
 }

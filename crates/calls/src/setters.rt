@@ -2,52 +2,57 @@
 ghost use Rattle.std.specs.Prelude.{◌≡◌};
 ghost use Rattle.calls.specs.Setters.{set_enabled_call, set_lamp_failure_call, set_lamp_starting_call, set_faults_call};
 
-use gear::answer::{Outcome, Refusal, done, refused};
-use gear::condition::Faults;
+use gear::answer::{Outcome, done};
+use gear::condition::{Condition, Faults, Lamp};
 use gear::record::Gear;
+use gear::serve::serve;
 
+#[tactic(auto, unfolding(crate::specs::Setters::set_enabled_call))]
 pub fn set_enabled(gear: Gear, enabled: bool) -> Outcome
     ensures { result ≡ set_enabled_call gear enabled }
 {
-    if gear.fit() {
-        let mut next = gear;
-        next.condition.enabled = enabled;
-        return done(next);
-    }
-    refused(gear, Refusal::Unfit)
+    let condition = Condition {
+        enabled,
+        ..gear.condition
+    };
+    serve(gear, done(Gear { condition, ..gear }))
 }
 
+#[tactic(auto, unfolding(crate::specs::Setters::set_lamp_failure_call))]
 pub fn set_lamp_failure(gear: Gear, failure: bool) -> Outcome
     ensures { result ≡ set_lamp_failure_call gear failure }
 {
-    if gear.fit() {
-        let mut next = gear;
-        next.condition.lamp.failure = failure;
-        return done(next);
-    }
-    refused(gear, Refusal::Unfit)
+    let condition = Condition {
+        lamp: Lamp {
+            failure,
+            ..gear.condition.lamp
+        },
+        ..gear.condition
+    };
+    serve(gear, done(Gear { condition, ..gear }))
 }
 
+#[tactic(auto, unfolding(crate::specs::Setters::set_lamp_starting_call))]
 pub fn set_lamp_starting(gear: Gear, starting: bool) -> Outcome
     ensures { result ≡ set_lamp_starting_call gear starting }
 {
-    if gear.fit() {
-        let mut next = gear;
-        next.condition.lamp.starting = starting;
-        return done(next);
-    }
-    refused(gear, Refusal::Unfit)
+    let condition = Condition {
+        lamp: Lamp {
+            starting,
+            ..gear.condition.lamp
+        },
+        ..gear.condition
+    };
+    serve(gear, done(Gear { condition, ..gear }))
 }
 
+#[tactic(auto, unfolding(crate::specs::Setters::set_faults_call))]
 pub fn set_faults(gear: Gear, faults: Faults) -> Outcome
     ensures { result ≡ set_faults_call gear faults }
 {
-    if gear.fit() {
-        let mut condition = gear.condition;
-        condition.faults = faults;
-        let mut next = gear;
-        next.condition = condition;
-        return done(next);
-    }
-    refused(gear, Refusal::Unfit)
+    let condition = Condition {
+        faults,
+        ..gear.condition
+    };
+    serve(gear, done(Gear { condition, ..gear }))
 }

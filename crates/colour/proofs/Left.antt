@@ -1,18 +1,20 @@
 -- What each colour call leaves alone, and when nothing is staged.
 use Prim.Native.Nat.{ℕ}
 use mathlib.Core.Path.{◌≡◌, refl, ◌∙◌, sym, ap}
-use mathlib.Core.Bool.{Bool}
+use mathlib.Core.Bool.{Bool, true, false}
 use lib.Dec.{eqb, leb}
+use borrow.Author.Tests.{eqb-true}
 use Rattle.colour.specs.declared.record.Colour.{Colour}
 use Rattle.colour.specs.declared.setting.ColourSetting.{ColourSetting}
-use Rattle.colour.specs.declared.tint.ColorMode.TheVariants.{None}
+use Rattle.colour.specs.declared.tint.ColorMode.{ColorMode}
+use Rattle.colour.specs.declared.tint.ColorMode.TheVariants.{None, Cct, Xy, Rgb}
 use Rattle.colour.specs.declared.tint.Tint.{Tint}
-use Rattle.colour.specs.Activation.{activated, strays, activate, automatic, arc_power, recall}
+use Rattle.colour.specs.Activation.{activated, strays, activate, automatic, is_idle, arc_power, recall}
 use Rattle.colour.specs.Bounded.{bounded, put_back, store_bounded}
 use Rattle.colour.specs.Staging.{with_pending, load_temporaries_from, copy_report, take_staged_colour}
 use Rattle.colour.specs.Steps.{snapped, snaps, store_tc_limit, tc_step, xy_step}
-use Rattle.colour.specs.Tint.{dark, unstaged}
-use Rattle.numbers.proofs.Logic.{by_cases}
+use Rattle.colour.specs.Tint.{dark, is_lit, unstaged}
+use Rattle.numbers.proofs.Logic.{by_cases, no_false}
 
 -- no call of a gear that changes colour changes these but the report and the feature store
 pub record Left (before after : Colour) : Type 0 where
@@ -83,6 +85,22 @@ activate_nothing c e k = activate_none c e ∙ ap (with_pending c) (same c.pendi
   where
     same : (p : Tint) → p.mode ≡ None → p.control ≡ 0xFF → unstaged p ≡ p
     same p m n = λ i. record { mode = sym m i; x = p.x; y = p.y; tc = p.tc; levels = p.levels; control = sym n i }
+
+unlit : (m : ColorMode) → is_lit m ≡ false → m ≡ None
+unlit None e = refl
+unlit Xy e = cc
+unlit Cct e = cc
+unlit Rgb e = cc
+
+-- an idle colour stays as it is
+pub idle_kept : (c : Colour) → is_idle c ≡ true → arc_power c ≡ c
+unfolding is_idle arc_power
+idle_kept c e =
+    by_cases (automatic c)
+    (λ a.
+    by_cases (is_lit c.pending.mode) (λ l. no_false (simp (a, l) at e))
+    (λ l. rw a (activate_nothing c (unlit c.pending.mode l) (eqb-true _ _ (simp (a, l) at e)))))
+    (λ a. rw a)
 
 -- the whole staged colour is that of a fresh gear
 abbrev pub NothingStaged : Colour → Type 0

@@ -5,7 +5,8 @@ use mathlib.Core.Bool.{true, false}
 use lib.ListN.{replicate}
 use Rattle.colour.specs.declared.record.Colour.{Colour}
 use Rattle.colour.specs.declared.setting.ColourSetting.{ColourSetting}
-use Rattle.colour.specs.declared.value.ColourValue.TheVariants.{Value, Unknown}
+use Rattle.colour.specs.declared.value.NoValue.TheVariants.{Unknown}
+use Rattle.std.specs.Prelude.{Ok, Err}
 use Rattle.colour.specs.Activation.{activated, strays, unlinked, activate}
 use Rattle.colour.specs.Limits.{effective_coolest, effective_warmest, store_coolest, store_warmest, store_limit}
 use Rattle.colour.specs.Record.{fresh}
@@ -48,11 +49,11 @@ p6 = (refl, refl, refl, refl, refl)
 -- P7: what ids 63, 64, 81, 82, 83 and 127 show, on every record
 pub p7 :
     (c : Colour) →
-    (color_value c 63 ≡ Unknown) ×
-    (color_value c 64 ≡ Value 65535) ×
-    (color_value c 81 ≡ Value 65535) ×
-    (color_value c 82 ≡ Value 0) ×
-    (color_value c 83 ≡ Unknown) ×
-    (color_value c 127 ≡ Unknown)
+    (color_value c 63 ≡ Err Unknown) ×
+    (color_value c 64 ≡ Ok 65535) ×
+    (color_value c 81 ≡ Ok 65535) ×
+    (color_value c 82 ≡ Ok 0) ×
+    (color_value c 83 ≡ Err Unknown) ×
+    (color_value c 127 ≡ Err Unknown)
 unfolding kind_of color_value
 p7 c = (refl, refl, refl, refl, refl, refl)

@@ -7,9 +7,9 @@ use crate::record::Colour;
 use crate::setting::ColourSetting;
 use crate::staging::load_temporaries_from;
 use crate::tint::{ColorMode, Tint};
-use numbers::word::clamp;
 
 // The control with no channel linked.
+#[tactic(auto, unfolding(crate::specs::Activation::unlinked))]
 pub fn unlinked(control: u8) -> u8
     ensures { result ≡ unlinked control }
 {
@@ -17,6 +17,7 @@ pub fn unlinked(control: u8) -> u8
 }
 
 // The staged control, unless it says 'no change'.
+#[tactic(auto, unfolding(crate::specs::Activation::chosen))]
 pub fn chosen(control: u8, staged: u8) -> u8
     ensures { result ≡ chosen control staged }
 {
@@ -28,71 +29,62 @@ pub fn chosen(control: u8, staged: u8) -> u8
 }
 
 // The active colour once the staged one is put in its place. A colour temperature is clamped here, and not before.
+#[tactic(auto, unfolding(crate::specs::Activation::activated))]
 fn activated(active: Tint, pending: Tint, limits: Limits) -> Tint
     ensures { result ≡ activated active pending limits }
 {
-    let mode = pending.mode;
-    let levels = active.levels;
-    let staged = pending.levels;
-    match mode {
+    match pending.mode {
         ColorMode::None => active,
         ColorMode::Xy => Tint {
             mode: ColorMode::Xy,
             x: pending.x,
             y: pending.y,
-            tc: active.tc,
-            levels: levels,
             control: unlinked(active.control),
+            ..active
         },
         ColorMode::Cct => Tint {
             mode: ColorMode::Cct,
-            x: active.x,
-            y: active.y,
-            tc: clamp(
-                pending.tc,
-                limits.effective_coolest(),
-                limits.effective_warmest(),
-            ),
-            levels: levels,
+            tc: limits.hold(pending.tc),
             control: unlinked(active.control),
+            ..active
         },
-        ColorMode::Rgb => Tint {
-            mode: ColorMode::Rgb,
-            x: active.x,
-            y: active.y,
-            tc: active.tc,
-            levels: staged,
-            control: chosen(active.control, pending.control),
-        },
+        ColorMode::Rgb => {
+            let levels = pending.levels;
+            Tint {
+                mode: ColorMode::Rgb,
+                levels,
+                control: chosen(active.control, pending.control),
+                ..active
+            }
+        }
     }
 }
 
 // Whether the active colour is marked out of range after the staged one was put in its place.
+#[tactic(auto, unfolding(crate::specs::Activation::strays))]
 fn strays(outside: bool, pending: Tint, limits: Limits) -> bool
     ensures { result ≡ strays outside pending limits }
 {
-    let mode = pending.mode;
-    if mode.is_cct() {
-        let coolest = limits.effective_coolest();
-        let warmest = limits.effective_warmest();
-        return clamp(pending.tc, coolest, warmest) != pending.tc;
+    if pending.mode.is_cct() {
+        limits.hold(pending.tc) != pending.tc
+    } else {
+        outside
     }
-    outside
 }
 
+#[tactic(auto, unfolding(crate::specs::Activation::activate))]
 pub fn activate_pending_color(colour: Colour) -> Colour
     ensures { result ≡ activate colour }
 {
-    let active = colour.active;
-    let pending = colour.pending;
-    let limits = colour.limits;
-    let mut next = colour;
-    next.active = activated(active, pending, limits);
-    next.outside = strays(colour.outside, pending, limits);
-    next.pending = pending.unstaged();
-    next
+    Colour {
+        active: activated(colour.active, colour.pending, colour.limits),
+        outside: strays(colour.outside, colour.pending, colour.limits),
+        pending: colour.pending.unstaged(),
+        ..colour
+    }
 }
 
+#[tactic(auto, unfolding(crate::specs::Activation::automatic))]
 pub fn automatic_activation(colour: Colour) -> bool
     ensures { result ≡ automatic colour }
 {
@@ -100,21 +92,16 @@ pub fn automatic_activation(colour: Colour) -> bool
 }
 
 // No change to come: automatic activation is off, or no mode is staged and the staged control is the mask already.
+#[tactic(auto, unfolding(crate::specs::Activation::is_idle))]
 fn is_idle(colour: Colour) -> bool
     ensures { result ≡ is_idle colour }
 {
-    if automatic_activation(colour) {
-        let pending = colour.pending;
-        let mode = pending.mode;
-        if mode.is_lit() {
-            return false;
-        }
-        return pending.control == ColourSetting::CONTROL_MASK;
-    }
-    true
+    !automatic_activation(colour)
+        || !colour.pending.mode.is_lit() && colour.pending.control == ColourSetting::CONTROL_MASK
 }
 
 // Part 209, 9.12.5: a change of arc power activates what is staged, where automatic activation is on.
+#[tactic(auto, using(crate::proofs::Left::idle_kept), unfolding(crate::specs::Activation::arc_power, crate::specs::Activation::is_idle))]
 pub fn arc_power_activation(colour: Colour) -> Colour
     ensures { result ≡ arc_power colour }
 {
@@ -125,6 +112,7 @@ pub fn arc_power_activation(colour: Colour) -> Colour
 }
 
 // Part 209, 9.11.4: recalling a scene stages its colour, unless it has none, and activates it where that is automatic.
+#[tactic(auto, unfolding(crate::specs::Activation::recall))]
 pub fn recall(colour: Colour, scene: ColourSetting) -> Colour
     ensures { result ≡ recall colour scene }
 {

@@ -4,7 +4,6 @@ ghost use Rattle.colour.specs.Bounded.{store_bounded};
 
 use crate::limits::Limits;
 use crate::tint::ColorMode;
-use numbers::word::clamp;
 
 #[derive(Clone, Copy)]
 pub struct BoundedTc {
@@ -16,6 +15,7 @@ pub struct BoundedTc {
 
 impl BoundedTc {
     // Part 209, 9.13: the limit that the selector names, and then an active colour temperature is snapped and marked.
+    #[tactic(auto, unfolding(crate::specs::Steps::store_tc_limit, crate::specs::Steps::snapped, crate::specs::Steps::snaps))]
     pub fn store(self, value: u16, selector: u8) -> BoundedTc
         ensures { result ≡ store_bounded self value selector }
     {
@@ -23,19 +23,15 @@ impl BoundedTc {
             return self;
         }
         let limits = self.limits.store(value, selector);
-        let mode = self.mode;
-        let mut next = self;
-        next.limits = limits;
-        if mode.is_cct() {
-            let coolest = limits.effective_coolest();
-            let warmest = limits.effective_warmest();
-            next.tc = clamp(self.tc, coolest, warmest);
-            if next.tc != self.tc {
-                next.outside = true;
-                return next;
-            }
-            return next;
+        if !self.mode.is_cct() {
+            return BoundedTc { limits, ..self };
         }
-        next
+        let tc = limits.hold(self.tc);
+        BoundedTc {
+            limits,
+            tc,
+            outside: self.outside || tc != self.tc,
+            ..self
+        }
     }
 }

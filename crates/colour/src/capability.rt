@@ -4,7 +4,7 @@ ghost use Rattle.colour.specs.Capability.{capability_number, has};
 
 use crate::record::Capabilities;
 
-#[derive(Clone, Copy)]
+#[derive(Clone, Copy, PartialEq, Eq, Debug)]
 pub enum Capability {
     Xy,
     Tc,
@@ -22,12 +22,14 @@ impl Capability {
             Capability::Channels => 0 < can.channels,
         }
     }
+}
 
-    // The number by which it is told to whoever does not speak Rattle.
-    pub fn number(self) -> u8
-        ensures { result ≡ capability_number self }
-    {
-        match self {
+// The number by which it is told to whoever does not speak Rattle.
+impl From<Capability> for u8 {
+    ghost from_gives = { λ need number. number ≡ capability_number need };
+
+    fn from(need: Capability) -> u8 {
+        match need {
             Capability::Xy => 1,
             Capability::Tc => 2,
             Capability::Channels => 3,

@@ -1,21 +1,20 @@
 // The kind of each id of a colour value (part 209, table 11).
 ghost use Rattle.std.specs.Prelude.{◌≡◌};
-ghost use Rattle.colour.specs.Kinds.{kind_of};
+ghost use Rattle.colour.specs.Kinds.{kind_numbered, kind_of};
 
-// The kinds of colour value; 0 is none.
-pub(crate) const ACTIVE: u8 = 1;
+#[derive(Clone, Copy, PartialEq, Eq, Debug)]
+pub enum Kind {
+    Active,
+    // A primary's number, and how many primaries there are.
+    Primary,
+    Primaries,
+    Limit,
+    Staged,
+    Report,
+}
 
-pub(crate) const PRIMARY: u8 = 2;
-
-pub(crate) const PRIMARIES: u8 = 3;
-
-pub(crate) const LIMIT: u8 = 4;
-
-pub(crate) const STAGED: u8 = 5;
-
-pub(crate) const REPORT: u8 = 6;
-
-// Part 209, table 11: the kind of each id.
+// Part 209, table 11: the number of each id's kind, in the order above from 1; 0 where no gear has the id. Bytes, since the check computes
+// a table of bytes whole, and none of enum values (tried).
 const KINDS: [u8; 256] = [
     1, 1, 1, 0, 0, 0, 0, 0, 0, 1, 1, 1, 1, 1, 1, 1, 0, 0, 0, 0, 0, 0, 0, 0, 0, 0, 0, 0, 0, 0, 0, 0,
     0, 0, 0, 0, 0, 0, 0, 0, 0, 0, 0, 0, 0, 0, 0, 0, 0, 0, 0, 0, 0, 0, 0, 0, 0, 0, 0, 0, 0, 0, 0, 0,
@@ -27,8 +26,25 @@ const KINDS: [u8; 256] = [
     6, 6, 6, 0, 0, 0, 0, 0, 0, 6, 6, 6, 6, 6, 6, 6, 6, 0, 0, 0, 0, 0, 0, 0, 0, 0, 0, 0, 0, 0, 0, 0,
 ];
 
-pub(crate) fn kind_of(id: u8) -> u8
+// The kind of a number of the table.
+#[tactic(auto, unfolding(crate::specs::Kinds::kind_numbered))]
+fn kind_numbered(number: u8) -> Option<Kind>
+    ensures { result ≡ kind_numbered number }
+{
+    match number {
+        1 => Some(Kind::Active),
+        2 => Some(Kind::Primary),
+        3 => Some(Kind::Primaries),
+        4 => Some(Kind::Limit),
+        5 => Some(Kind::Staged),
+        6 => Some(Kind::Report),
+        _ => None,
+    }
+}
+
+// None where no gear has the id.
+pub(crate) fn kind_of(id: u8) -> Option<Kind>
     ensures { result ≡ kind_of id }
 {
-    KINDS[id as usize]
+    kind_numbered(KINDS[id as usize])
 }

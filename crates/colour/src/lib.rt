@@ -5,7 +5,7 @@
 pub mod activation;
 pub mod bounded;
 pub mod capability;
-mod kinds;
+pub mod kinds;
 pub mod limits;
 pub mod record;
 pub mod report;

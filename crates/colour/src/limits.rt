@@ -1,8 +1,9 @@
 // The limits of a colour temperature, in mirek: those stored for the gear, and the physical ones behind them.
 ghost use Rattle.std.specs.Prelude.{◌≡◌};
-ghost use Rattle.colour.specs.Limits.{effective_coolest, effective_warmest, limits_fit, pulled, store_coolest, store_warmest, store_physical, store_limit};
+ghost use Rattle.colour.specs.Activation.{within};
+ghost use Rattle.colour.specs.Limits.{effective_coolest, effective_warmest, limits_fit, pulled, rendered, store_coolest, store_warmest, store_physical, store_limit};
 
-use numbers::word::{clamp, max, min};
+use numbers::clamp;
 
 #[derive(Clone, Copy)]
 pub struct Range {
@@ -20,6 +21,7 @@ impl Limits {
     // A stored limit of this value gives way to the physical one.
     pub const UNSET: u16 = 0xFFFF;
 
+    #[tactic(auto, unfolding(crate::specs::Limits::effective_coolest))]
     pub fn effective_coolest(self) -> u16
         ensures { result ≡ effective_coolest self }
     {
@@ -30,6 +32,8 @@ impl Limits {
         }
     }
 
+    // A twin in two fields: one function would take both numbers from its caller, and be no plainer.
+    #[tactic(auto, unfolding(crate::specs::Limits::effective_warmest))]
     pub fn effective_warmest(self) -> u16
         ensures { result ≡ effective_warmest self }
     {
@@ -40,109 +44,112 @@ impl Limits {
         }
     }
 
+    // A colour temperature held within the effective limits.
+    pub fn hold(self, tc: u16) -> u16
+        ensures { result ≡ within tc self }
+    {
+        clamp(tc, self.effective_coolest(), self.effective_warmest())
+    }
+
     // Physical coolest, effective coolest, effective warmest and physical warmest in this order, and below 65,535.
+    #[tactic(auto, unfolding(crate::specs::Limits::limits_fit))]
     pub(crate) fn fit(self) -> bool
         ensures { result ≡ limits_fit self }
     {
         let coolest = self.effective_coolest();
         let warmest = self.effective_warmest();
-        if coolest < self.physical.coolest {
-            return false;
-        }
-        if warmest < coolest {
-            return false;
-        }
-        if self.physical.warmest < warmest {
-            return false;
-        }
-        if self.physical.warmest < Limits::UNSET {
-            return true;
-        }
-        false
+        self.physical.coolest <= coolest
+            && coolest <= warmest
+            && warmest <= self.physical.warmest
+            && self.physical.warmest < Limits::UNSET
+    }
+
+    // A limit asked for, within the physical pair.
+    fn rendered(self, value: u16) -> u16
+        ensures { result ≡ rendered value self }
+    {
+        clamp(value, self.physical.coolest, self.physical.warmest)
     }
 
     // Selector 0: the coolest limit, which drags the warmest along where they would cross.
+    #[tactic(auto, unfolding(crate::specs::Limits::store_coolest))]
     fn store_coolest(self, value: u16) -> Limits
         ensures { result ≡ store_coolest value self }
     {
-        let mut next = self;
+        let mut stored = self.stored;
         if value == Limits::UNSET {
-            next.stored.coolest = Limits::UNSET;
-            return next;
+            stored.coolest = Limits::UNSET;
+            return Limits { stored, ..self };
         }
-        let clamped = clamp(value, self.physical.coolest, self.physical.warmest);
-        next.stored.coolest = clamped;
-        if self.effective_warmest() < clamped {
-            next.stored.warmest = clamped;
+        stored.coolest = self.rendered(value);
+        if self.effective_warmest() < stored.coolest {
+            stored.warmest = stored.coolest;
         }
-        next
+        Limits { stored, ..self }
     }
 
     // Selector 1: the warmest limit, which drags the coolest along where they would cross.
+    #[tactic(auto, unfolding(crate::specs::Limits::store_warmest))]
     fn store_warmest(self, value: u16) -> Limits
         ensures { result ≡ store_warmest value self }
     {
-        let mut next = self;
+        let mut stored = self.stored;
         if value == Limits::UNSET {
-            next.stored.warmest = Limits::UNSET;
-            return next;
+            stored.warmest = Limits::UNSET;
+            return Limits { stored, ..self };
         }
-        let clamped = clamp(value, self.physical.coolest, self.physical.warmest);
-        next.stored.warmest = clamped;
-        if clamped < self.effective_coolest() {
-            next.stored.coolest = clamped;
+        stored.warmest = self.rendered(value);
+        if stored.warmest < self.effective_coolest() {
+            stored.coolest = stored.warmest;
         }
-        next
+        Limits { stored, ..self }
     }
 
     // New physical limits pull the stored ones in.
-    fn with_physical(self, coolest: u16, warmest: u16) -> Limits
-        ensures { result ≡ store_physical coolest warmest self }
+    #[tactic(auto, unfolding(crate::specs::Limits::store_physical))]
+    fn with_physical(self, physical: Range) -> Limits
+        ensures { result ≡ store_physical physical.coolest physical.warmest self }
     {
         Limits {
             stored: Range {
-                coolest: pulled(self.stored.coolest, coolest, warmest),
-                warmest: pulled(self.stored.warmest, coolest, warmest),
+                coolest: pulled(self.stored.coolest, physical),
+                warmest: pulled(self.stored.warmest, physical),
             },
-            physical: Range {
-                coolest: coolest,
-                warmest: warmest,
-            },
+            physical,
         }
     }
 
     // Part 209, table 9: the limit that the selector names. A physical limit stops at the other one and ignores 65,535.
-    // A selector above 3 names none.
+    // A selector above 3 names none. It is a byte from outside: an enum would be matched a second time, and be no plainer.
+    #[tactic(auto, unfolding(crate::specs::Limits::store_limit))]
     pub(crate) fn store(self, value: u16, selector: u8) -> Limits
         ensures { result ≡ store_limit self value selector }
     {
-        let coolest = self.physical.coolest;
-        let warmest = self.physical.warmest;
-        if selector == 0 {
-            return self.store_coolest(value);
+        let Range { coolest, warmest } = self.physical;
+        match selector {
+            0 => self.store_coolest(value),
+            1 => self.store_warmest(value),
+            _ if value == Limits::UNSET => self,
+            2 => self.with_physical(Range {
+                coolest: value.min(warmest),
+                warmest,
+            }),
+            3 => self.with_physical(Range {
+                coolest,
+                warmest: value.max(coolest),
+            }),
+            _ => self,
         }
-        if selector == 1 {
-            return self.store_warmest(value);
-        }
-        if value == Limits::UNSET {
-            return self;
-        }
-        if selector == 2 {
-            return self.with_physical(min(value, warmest), warmest);
-        }
-        if selector == 3 {
-            return self.with_physical(coolest, max(value, coolest));
-        }
-        self
     }
 }
 
 // A stored limit held within new physical ones; 65,535 is no limit and stays.
-fn pulled(stored: u16, low: u16, high: u16) -> u16
-    ensures { result ≡ pulled stored low high }
+#[tactic(auto, unfolding(crate::specs::Limits::pulled))]
+fn pulled(stored: u16, physical: Range) -> u16
+    ensures { result ≡ pulled stored physical.coolest physical.warmest }
 {
     if stored == Limits::UNSET {
         return stored;
     }
-    clamp(stored, low, high)
+    clamp(stored, physical.coolest, physical.warmest)
 }

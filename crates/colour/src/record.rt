@@ -31,16 +31,14 @@ impl Colour {
     // Every channel linked.
     pub const POWER_UP_CONTROL: u8 = 0x3F;
 
-    // The colour of a new gear with these physical limits: no colour active, none staged.
+    // The colour of a new gear with these physical limits: no colour active, none staged. Two numbers, as `fresh` and the profile have them.
+    #[tactic(auto, unfolding(crate::specs::Record::fresh))]
     pub fn fresh(can: Capabilities, coolest: u16, warmest: u16) -> Colour
         ensures { result ≡ fresh can coolest warmest }
     {
-        let range = Range {
-            coolest: coolest,
-            warmest: warmest,
-        };
+        let range = Range { coolest, warmest };
         Colour {
-            can: can,
+            can,
             limits: Limits {
                 stored: range,
                 physical: range,
@@ -54,57 +52,52 @@ impl Colour {
     }
 
     // Part 209, table 8: a reset keeps the active colour and its mark; the rest is that of a new gear.
+    #[tactic(auto, unfolding(crate::specs::Record::reset, crate::specs::Record::fresh))]
     pub fn reset(self) -> Colour
         ensures { result ≡ reset self }
     {
-        let active = self.active;
-        let mut next = Colour::fresh(
-            self.can,
-            self.limits.physical.coolest,
-            self.limits.physical.warmest,
-        );
-        next.active = active;
-        next.outside = self.outside;
-        next
+        let Range { coolest, warmest } = self.limits.physical;
+        Colour {
+            active: self.active,
+            outside: self.outside,
+            ..Colour::fresh(self.can, coolest, warmest)
+        }
     }
 
     // Part 209, table 8: power-up darkens the channels, links them all and forgets what is staged and the report.
     // The staged coordinates and temperature stay behind.
+    #[tactic(auto, unfolding(crate::specs::Record::power_up))]
     pub fn power_up(self) -> Colour
         ensures { result ≡ power_up self }
     {
-        let mut active = self.active;
-        active.levels = [0; 6];
-        active.control = Colour::POWER_UP_CONTROL;
-        let mut pending = self.pending.unstaged();
-        pending.levels = [0; 6];
-        let mut next = self;
-        next.active = active;
-        next.pending = pending;
-        next.report = ColourSetting::mask();
-        next.features = Colour::POWER_UP_FEATURES;
-        next
+        Colour {
+            active: Tint {
+                levels: [0; 6],
+                control: Colour::POWER_UP_CONTROL,
+                ..self.active
+            },
+            pending: Tint {
+                levels: [0; 6],
+                ..self.pending.unstaged()
+            },
+            report: ColourSetting::mask(),
+            features: Colour::POWER_UP_FEATURES,
+            ..self
+        }
     }
 
+    #[tactic(auto, unfolding(crate::specs::Record::with_features))]
     pub fn with_features(self, features: u8) -> Colour
         ensures { result ≡ with_features self features }
     {
-        let mut next = self;
-        next.features = features;
-        next
+        Colour { features, ..self }
     }
 
     // Document 01's fit record, as far as colour goes.
+    #[tactic(auto, unfolding(crate::specs::Record::fitb))]
     pub fn fit(self) -> bool
         ensures { result ≡ fitb self }
     {
-        if 6 < self.can.channels {
-            return false;
-        }
-        let limits = self.limits;
-        if limits.fit() {
-            return self.active.lies_within(limits);
-        }
-        false
+        self.can.channels <= 6 && self.limits.fit() && self.active.lies_within(self.limits)
     }
 }

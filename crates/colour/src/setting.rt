@@ -6,7 +6,8 @@ use crate::record::Capabilities;
 
 #[derive(Clone, Copy)]
 pub struct ColourSetting {
-    // Single bytes first: fourteen bytes without a gap, and sixteen with a level.
+    // Single bytes first: fourteen bytes without a gap, and sixteen with a level. The type stays a byte: a stored colour keeps any, known
+    // or not (`Stages`, `gear_of` and the image of a slot).
     pub kind: u8,
     pub control: u8,
     pub x: u16,
@@ -40,11 +41,11 @@ impl ColourSetting {
     }
 
     // A type byte over numbers that all say 'no change'.
-    fn masked(kind: u8) -> ColourSetting
+    pub(crate) fn masked(kind: u8) -> ColourSetting
         ensures { result ≡ masked kind }
     {
         ColourSetting {
-            kind: kind,
+            kind,
             x: ColourSetting::VALUE_MASK,
             y: ColourSetting::VALUE_MASK,
             tc: ColourSetting::VALUE_MASK,
@@ -55,18 +56,20 @@ impl ColourSetting {
 
     // What a gear leaves the factory with (part 209, table 8): the first type that it can do, and no numbers.
     // `dt8` says whether its type list has the colour type.
+    #[tactic(auto, unfolding(crate::specs::Setting::factory))]
     pub fn factory(dt8: bool, can: Capabilities) -> ColourSetting
         ensures { result ≡ factory dt8 can }
     {
-        if dt8 {
-            if can.xy {
-                return ColourSetting::masked(ColourSetting::XY);
-            }
-            if can.tc {
-                return ColourSetting::masked(ColourSetting::TC);
-            }
-            return ColourSetting::masked(ColourSetting::RGBWAF);
+        if !dt8 {
+            return ColourSetting::mask();
         }
-        ColourSetting::mask()
+        let kind = if can.xy {
+            ColourSetting::XY
+        } else if can.tc {
+            ColourSetting::TC
+        } else {
+            ColourSetting::RGBWAF
+        };
+        ColourSetting::masked(kind)
     }
 }

@@ -14,77 +14,70 @@ pub struct Taken {
 }
 
 // What a setting leaves staged: its own numbers over those that were there; an unknown type unstages.
+#[tactic(auto, unfolding(crate::specs::Staging::load))]
 fn load(pending: Tint, setting: ColourSetting) -> Tint
     ensures { result ≡ load pending setting }
 {
-    let kind = setting.kind;
-    let kept = pending.levels;
-    let levels = setting.levels;
-    if kind == ColourSetting::XY {
-        return Tint {
+    match setting.kind {
+        ColourSetting::XY => Tint {
             mode: ColorMode::Xy,
             x: setting.x,
             y: setting.y,
-            tc: pending.tc,
-            levels: kept,
             control: ColourSetting::CONTROL_MASK,
-        };
-    }
-    if kind == ColourSetting::TC {
-        return Tint {
+            ..pending
+        },
+        ColourSetting::TC => Tint {
             mode: ColorMode::Cct,
-            x: pending.x,
-            y: pending.y,
             tc: setting.tc,
-            levels: kept,
             control: ColourSetting::CONTROL_MASK,
-        };
+            ..pending
+        },
+        ColourSetting::RGBWAF => {
+            let levels = setting.levels;
+            Tint {
+                mode: ColorMode::Rgb,
+                levels,
+                control: setting.control,
+                ..pending
+            }
+        }
+        _ => pending.unstaged(),
     }
-    if kind == ColourSetting::RGBWAF {
-        return Tint {
-            mode: ColorMode::Rgb,
-            x: pending.x,
-            y: pending.y,
-            tc: pending.tc,
-            levels: levels,
-            control: setting.control,
-        };
-    }
-    pending.unstaged()
 }
 
+#[tactic(auto, unfolding(crate::specs::Staging::load_temporaries_from))]
 pub fn load_temporaries_from(colour: Colour, setting: ColourSetting) -> Colour
     ensures { result ≡ load_temporaries_from colour setting }
 {
-    let pending = colour.pending;
-    let mut next = colour;
-    next.pending = load(pending, setting);
-    next
+    Colour {
+        pending: load(colour.pending, setting),
+        ..colour
+    }
 }
 
+#[tactic(auto, unfolding(crate::specs::Staging::copy_report))]
 pub fn copy_report_to_temporary(colour: Colour) -> Colour
     ensures { result ≡ copy_report colour }
 {
-    let report = colour.report;
-    load_temporaries_from(colour, report)
+    load_temporaries_from(colour, colour.report)
 }
 
 // The staged colour, or `kept` where nothing is staged.
+#[tactic(auto, unfolding(crate::specs::Staging::take_staged_colour))]
 pub fn take_staged_colour(colour: Colour, kept: ColourSetting) -> Taken
     ensures { result ≡ take_staged_colour colour kept }
 {
-    let pending = colour.pending;
-    let mode = pending.mode;
-    if mode.is_lit() {
-        let mut next = colour;
-        next.pending = pending.unstaged();
+    if !colour.pending.mode.is_lit() {
         return Taken {
-            setting: pending.captured(),
-            colour: next,
+            setting: kept,
+            colour,
         };
     }
     Taken {
-        setting: kept,
-        colour: colour,
+        setting: colour.pending.captured(),
+        colour: Colour {
+            pending: colour.pending.unstaged(),
+            ..colour
+        },
     }
 }

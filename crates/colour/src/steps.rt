@@ -6,7 +6,6 @@ use crate::bounded::BoundedTc;
 use crate::limits::Limits;
 use crate::record::Colour;
 use crate::tint::Tint;
-use numbers::word::{max, min, saturating_add, saturating_sub};
 
 // How far a coordinate moves in a step, and the last one.
 const XY_STEP: u16 = 256;
@@ -14,86 +13,97 @@ const XY_STEP: u16 = 256;
 const XY_LAST: u16 = 0xFFFE;
 
 // One mirek, not past the effective limits.
+#[tactic(auto, unfolding(crate::specs::Steps::stepped_tc))]
 pub fn stepped_tc(tc: u16, limits: Limits, warmer: bool) -> u16
     ensures { result ≡ stepped_tc tc limits warmer }
 {
     if warmer {
-        return min(saturating_add(tc, 1), limits.effective_warmest());
+        tc.saturating_add(1).min(limits.effective_warmest())
+    } else {
+        tc.saturating_sub(1).max(limits.effective_coolest())
     }
-    max(saturating_sub(tc, 1), limits.effective_coolest())
 }
 
+#[tactic(auto, unfolding(crate::specs::Steps::stepped_xy))]
 pub fn stepped_xy(at: u16, up: bool) -> u16
     ensures { result ≡ stepped_xy at up }
 {
     if up {
-        return min(saturating_add(at, XY_STEP), XY_LAST);
+        at.saturating_add(XY_STEP).min(XY_LAST)
+    } else {
+        at.saturating_sub(XY_STEP)
     }
-    saturating_sub(at, XY_STEP)
 }
 
 // One step warmer or cooler, for an active colour temperature alone; it ends within the limits.
+#[tactic(auto, unfolding(crate::specs::Steps::tc_step))]
 pub fn tc_step(colour: Colour, warmer: bool) -> Colour
     ensures { result ≡ tc_step colour warmer }
 {
-    let mut active = colour.active;
-    let limits = colour.limits;
-    let mode = active.mode;
-    if mode.is_cct() {
-        active.tc = stepped_tc(active.tc, limits, warmer);
-        let mut next = colour;
-        next.active = active;
-        next.outside = false;
-        return next;
+    if !colour.active.mode.is_cct() {
+        return colour;
     }
-    colour
+    Colour {
+        active: Tint {
+            tc: stepped_tc(colour.active.tc, colour.limits, warmer),
+            ..colour.active
+        },
+        outside: false,
+        ..colour
+    }
 }
 
 // The active coordinates moved along one axis.
+#[tactic(auto, unfolding(crate::specs::Steps::moved))]
 fn moved(active: Tint, y_axis: bool, up: bool) -> Tint
     ensures { result ≡ moved active y_axis up }
 {
-    let mut next = active;
     if y_axis {
-        next.y = stepped_xy(active.y, up);
-        return next;
+        Tint {
+            y: stepped_xy(active.y, up),
+            ..active
+        }
+    } else {
+        Tint {
+            x: stepped_xy(active.x, up),
+            ..active
+        }
     }
-    next.x = stepped_xy(active.x, up);
-    next
 }
 
 // One step along an axis, for an active coordinate pair alone.
+#[tactic(auto, unfolding(crate::specs::Steps::xy_step))]
 pub fn xy_step(colour: Colour, y_axis: bool, up: bool) -> Colour
     ensures { result ≡ xy_step colour y_axis up }
 {
-    let active = colour.active;
-    let mode = active.mode;
-    if mode.is_xy() {
-        let mut next = colour;
-        next.active = moved(active, y_axis, up);
-        return next;
+    if !colour.active.mode.is_xy() {
+        return colour;
     }
-    colour
+    Colour {
+        active: moved(colour.active, y_axis, up),
+        ..colour
+    }
 }
 
 // Part 209, 9.13: the limit store, on the few numbers that it works on, which are then put back.
+#[tactic(auto, using(crate::proofs::Left::store_put_back))]
 pub fn store_tc_limit(colour: Colour, value: u16, selector: u8) -> Colour
     ensures { result ≡ store_tc_limit colour value selector }
 {
-    let limits = colour.limits;
-    let active = colour.active;
-    let mode = active.mode;
     let bounded = BoundedTc {
-        limits: limits,
-        tc: active.tc,
-        mode: mode,
+        limits: colour.limits,
+        tc: colour.active.tc,
+        mode: colour.active.mode,
         outside: colour.outside,
     };
     let stored = bounded.store(value, selector);
-    let held = stored.limits;
-    let mut next = colour;
-    next.limits = held;
-    next.active.tc = stored.tc;
-    next.outside = stored.outside;
-    next
+    Colour {
+        limits: stored.limits,
+        active: Tint {
+            tc: stored.tc,
+            ..colour.active
+        },
+        outside: stored.outside,
+        ..colour
+    }
 }

@@ -5,7 +5,7 @@ ghost use Rattle.colour.specs.Tint.{colour_type_byte, face, captured, unstaged, 
 use crate::limits::Limits;
 use crate::setting::ColourSetting;
 
-#[derive(Clone, Copy)]
+#[derive(Clone, Copy, PartialEq, Eq, Debug)]
 pub enum ColorMode {
     None,
     Cct,
@@ -24,14 +24,16 @@ pub struct Tint {
 }
 
 // The type byte of a mode; no mode has the mask.
-pub(crate) fn colour_type_byte(mode: ColorMode) -> u8
-    ensures { result ≡ colour_type_byte mode }
-{
-    match mode {
-        ColorMode::None => ColourSetting::MASK,
-        ColorMode::Xy => ColourSetting::XY,
-        ColorMode::Cct => ColourSetting::TC,
-        ColorMode::Rgb => ColourSetting::RGBWAF,
+impl From<ColorMode> for u8 {
+    ghost from_gives = { λ mode byte. byte ≡ colour_type_byte mode };
+
+    fn from(mode: ColorMode) -> u8 {
+        match mode {
+            ColorMode::None => ColourSetting::MASK,
+            ColorMode::Xy => ColourSetting::XY,
+            ColorMode::Cct => ColourSetting::TC,
+            ColorMode::Rgb => ColourSetting::RGBWAF,
+        }
     }
 }
 
@@ -39,38 +41,20 @@ impl ColorMode {
     pub(crate) fn is_cct(self) -> bool
         ensures { result ≡ is_cct self }
     {
-        let mode = self;
-        match mode {
-            ColorMode::None => false,
-            ColorMode::Xy => false,
-            ColorMode::Cct => true,
-            ColorMode::Rgb => false,
-        }
+        matches!(self, ColorMode::Cct)
     }
 
     pub(crate) fn is_xy(self) -> bool
         ensures { result ≡ is_xy self }
     {
-        let mode = self;
-        match mode {
-            ColorMode::None => false,
-            ColorMode::Xy => true,
-            ColorMode::Cct => false,
-            ColorMode::Rgb => false,
-        }
+        matches!(self, ColorMode::Xy)
     }
 
     // Any mode but none.
     pub(crate) fn is_lit(self) -> bool
         ensures { result ≡ is_lit self }
     {
-        let mode = self;
-        match mode {
-            ColorMode::None => false,
-            ColorMode::Xy => true,
-            ColorMode::Cct => true,
-            ColorMode::Rgb => true,
-        }
+        !matches!(self, ColorMode::None)
     }
 }
 
@@ -85,66 +69,59 @@ impl Tint {
             y: 0,
             tc: 0,
             levels: [0; 6],
-            control: control,
+            control,
         }
     }
 
     // A colour temperature that lies within the effective limits; the other modes have none to lie outside.
+    #[tactic(auto, unfolding(crate::specs::Tint::lies_within))]
     pub(crate) fn lies_within(self, limits: Limits) -> bool
         ensures { result ≡ lies_within self limits }
     {
-        let mode = self.mode;
-        if mode.is_cct() {
-            let warmest = limits.effective_warmest();
-            if self.tc < limits.effective_coolest() {
-                return false;
-            }
-            return self.tc <= warmest;
-        }
-        true
+        !self.mode.is_cct()
+            || limits.effective_coolest() <= self.tc && self.tc <= limits.effective_warmest()
     }
 
     // Every number as it stands, under the type byte of the mode.
-    pub(crate) fn face(self) -> ColourSetting
+    #[tactic(auto, unfolding(crate::specs::Tint::face))]
+    pub fn face(self) -> ColourSetting
         ensures { result ≡ face self }
     {
-        let mode = self.mode;
         let levels = self.levels;
         ColourSetting {
-            kind: colour_type_byte(mode),
+            kind: u8::from(self.mode),
             x: self.x,
             y: self.y,
             tc: self.tc,
-            levels: levels,
+            levels,
             control: self.control,
         }
     }
 
     // The mode's own numbers, every other one masked.
+    #[tactic(auto, unfolding(crate::specs::Tint::captured))]
     pub fn captured(self) -> ColourSetting
         ensures { result ≡ captured self }
     {
-        let mode = self.mode;
-        let mut setting = ColourSetting::mask();
-        match mode {
-            ColorMode::None => setting,
-            ColorMode::Xy => {
-                setting.kind = ColourSetting::XY;
-                setting.x = self.x;
-                setting.y = self.y;
-                setting
-            }
-            ColorMode::Cct => {
-                setting.kind = ColourSetting::TC;
-                setting.tc = self.tc;
-                setting
-            }
+        let masked = ColourSetting::masked(u8::from(self.mode));
+        match self.mode {
+            ColorMode::None => masked,
+            ColorMode::Xy => ColourSetting {
+                x: self.x,
+                y: self.y,
+                ..masked
+            },
+            ColorMode::Cct => ColourSetting {
+                tc: self.tc,
+                ..masked
+            },
             ColorMode::Rgb => {
                 let levels = self.levels;
-                setting.kind = ColourSetting::RGBWAF;
-                setting.levels = levels;
-                setting.control = self.control;
-                setting
+                ColourSetting {
+                    levels,
+                    control: self.control,
+                    ..masked
+                }
             }
         }
     }
@@ -153,14 +130,10 @@ impl Tint {
     pub(crate) fn unstaged(self) -> Tint
         ensures { result ≡ unstaged self }
     {
-        let levels = self.levels;
         Tint {
             mode: ColorMode::None,
-            x: self.x,
-            y: self.y,
-            tc: self.tc,
-            levels: levels,
             control: ColourSetting::CONTROL_MASK,
+            ..self
         }
     }
 }

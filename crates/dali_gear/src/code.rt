@@ -3,11 +3,11 @@ ghost use Rattle.std.specs.Prelude.{◌≡◌};
 ghost use Rattle.dali_gear.specs.Code.{answer_code, answer_detail, asked_code, asked_detail};
 ghost use Rattle.dali_gear.specs.Code.{ran_code, ran_detail, verdict_code, verdict_detail};
 
-use file::Verdict;
-use gear::answer::Answer;
-use runner::ask::Asked;
-use runner::run::Ran;
+use file::Malformed;
+use gear::answer::{Answer, Reply};
+use runner::run::RunError;
 
+// The C interface: numbers, since C has no enum with a value.
 const DONE: u32 = 0;
 
 const MALFORMED: u32 = 5;
@@ -20,88 +20,88 @@ const SHORT: u32 = 18;
 
 const INCAPABLE: u32 = 19;
 
-pub fn verdict_code(verdict: Verdict) -> u32
+#[tactic(auto, unfolding(crate::specs::Code::verdict_code))]
+pub fn verdict_code(verdict: Result<(), Malformed>) -> u32
     ensures { result ≡ verdict_code verdict }
 {
     match verdict {
-        Verdict::Good => DONE,
-        Verdict::Bad(_) => MALFORMED,
+        Ok(()) => DONE,
+        Err(_) => MALFORMED,
     }
 }
 
-pub fn verdict_detail(verdict: Verdict) -> usize
+#[tactic(auto, unfolding(crate::specs::Code::verdict_detail))]
+pub fn verdict_detail(verdict: Result<(), Malformed>) -> usize
     ensures { result ≡ verdict_detail verdict }
 {
     match verdict {
-        Verdict::Good => 0,
-        Verdict::Bad(offset) => offset,
+        Ok(()) => 0,
+        Err(malformed) => malformed.offset,
     }
 }
 
-pub fn ran_code(ran: Ran) -> u32
+#[tactic(auto, unfolding(crate::specs::Code::ran_code))]
+pub fn ran_code(ran: Result<usize, RunError>) -> u32
     ensures { result ≡ ran_code ran }
 {
     match ran {
-        Ran::Lines(_) => DONE,
-        Ran::Malformed(_) => MALFORMED,
-        Ran::Short(_) => SHORT,
+        Ok(_) => DONE,
+        Err(RunError::Malformed(_)) => MALFORMED,
+        Err(RunError::Short(_)) => SHORT,
     }
 }
 
-pub fn ran_detail(ran: Ran) -> usize
+#[tactic(auto, unfolding(crate::specs::Code::ran_detail))]
+pub fn ran_detail(ran: Result<usize, RunError>) -> usize
     ensures { result ≡ ran_detail ran }
 {
     match ran {
-        Ran::Lines(count) => count,
-        Ran::Malformed(offset) => offset,
-        Ran::Short(wanted) => wanted,
+        Ok(count) => count,
+        Err(RunError::Malformed(malformed)) => malformed.offset,
+        Err(RunError::Short(wanted)) => wanted,
     }
 }
 
+#[tactic(auto, unfolding(crate::specs::Code::answer_code))]
 fn answer_code(answer: Answer) -> u32
     ensures { result ≡ answer_code answer }
 {
     match answer {
-        Answer::Done => DONE,
-        Answer::Value(_) => VALUE,
-        Answer::Nothing => NOTHING,
-        Answer::Incapable(_) => INCAPABLE,
-        Answer::Refused(refusal) => {
-            let number = refusal.number();
-            number as u32
-        }
+        Ok(Reply::Done) => DONE,
+        Ok(Reply::Value(_)) => VALUE,
+        Ok(Reply::Nothing) => NOTHING,
+        Ok(Reply::Incapable(_)) => INCAPABLE,
+        Err(refusal) => u32::from(u8::from(refusal)),
     }
 }
 
+#[tactic(auto, unfolding(crate::specs::Code::answer_detail))]
 fn answer_detail(answer: Answer) -> usize
     ensures { result ≡ answer_detail answer }
 {
     match answer {
-        Answer::Done => 0,
-        Answer::Value(value) => value as usize,
-        Answer::Nothing => 0,
-        Answer::Incapable(need) => {
-            let number = need.number();
-            number as usize
-        }
-        Answer::Refused(_) => 0,
+        Ok(Reply::Value(value)) => usize::from(value),
+        Ok(Reply::Incapable(need)) => usize::from(u8::from(need)),
+        Ok(Reply::Done | Reply::Nothing) | Err(_) => 0,
     }
 }
 
-pub fn asked_code(asked: Asked) -> u32
+#[tactic(auto, unfolding(crate::specs::Code::asked_code))]
+pub fn asked_code(asked: Result<Answer, Malformed>) -> u32
     ensures { result ≡ asked_code asked }
 {
     match asked {
-        Asked::Told(answer) => answer_code(answer),
-        Asked::Malformed(_) => MALFORMED,
+        Ok(answer) => answer_code(answer),
+        Err(_) => MALFORMED,
     }
 }
 
-pub fn asked_detail(asked: Asked) -> usize
+#[tactic(auto, unfolding(crate::specs::Code::asked_detail))]
+pub fn asked_detail(asked: Result<Answer, Malformed>) -> usize
     ensures { result ≡ asked_detail asked }
 {
     match asked {
-        Asked::Told(answer) => answer_detail(answer),
-        Asked::Malformed(offset) => offset,
+        Ok(answer) => answer_detail(answer),
+        Err(malformed) => malformed.offset,
     }
 }

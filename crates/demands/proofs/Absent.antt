@@ -4,9 +4,11 @@ use mathlib.Core.Path.{◌≡◌, refl, ◌∙◌, ap}
 use mathlib.Core.Bool.{Bool, true, false}
 use mathlib.Core.List.{List, []}
 use lib.Dec.{eqb, eqb→eq, ltb}
+use Rattle.std.specs.Prelude.{Option, None, Some, Result, Ok, Err}
 use lib.ListN.{replicate, length-replicate}
 use native.Mathlib.Omega.{arith}
 use borrow.Author.Tests.{le-ltb, ltb-true, ltb-false}
+use Rattle.std.specs.declared.result.Result.TheVariants.{Ok}
 use Rattle.demands.specs.Absent.{Absent, HostAbsent, by_list, capable, channel_ids, common_ids, explained, explained_by, if_there, is_value, limit_before, panel_file, panel_lines, shown_before, tc_ids, value_before, xy_ids}
 use Rattle.demands.specs.Calls.{perform}
 use Rattle.demands.specs.Calls.Call.{ColorValue}
@@ -25,7 +27,11 @@ use Rattle.colour.specs.declared.limits.Limits.{Limits}
 use Rattle.colour.specs.declared.record.Capabilities.{Capabilities}
 use Rattle.colour.specs.declared.record.Colour.{Colour}
 use Rattle.colour.specs.declared.setting.ColourSetting.{ColourSetting}
-use Rattle.colour.specs.Kinds.{kind_of}
+use Rattle.colour.specs.declared.kinds.Kind.{Kind}
+use Rattle.colour.specs.declared.kinds.Kind.TheVariants.{Active, Primary, Primaries, Limit, Staged, Report}
+use Rattle.colour.specs.declared.value.NoValue.{NoValue}
+use Rattle.colour.specs.declared.value.NoValue.TheVariants.{Unknown}
+use Rattle.colour.specs.Kinds.{by_kind, kind_of}
 use Rattle.colour.specs.Limits.{effective_coolest, effective_warmest, limits_fit}
 use Rattle.colour.specs.Record.{fitb as colour_fit, fresh}
 use Rattle.colour.specs.Tint.{face, lies_within}
@@ -33,9 +39,8 @@ use Rattle.colour.specs.Value.{channel_level, color_value, if_capable, limit_val
 use Rattle.dali_gear.specs.Code.{asked_code, asked_detail}
 use Rattle.file.specs.File.{checked, profile_of, steps_of, types_of, well_formed}
 use Rattle.file.specs.Profile.{padded, profile_from, profile_in, short_of, unit_from}
-use Rattle.gear.specs.Answer.{unexplained, value_answer}
-use Rattle.gear.specs.declared.answer.Answer.{Answer}
-use Rattle.gear.specs.declared.answer.Answer.TheVariants.{Nothing, Incapable}
+use Rattle.gear.specs.Answer.{Answer, unexplained, value_answer}
+use Rattle.gear.specs.declared.answer.Reply.TheVariants.{Value, Nothing, Incapable}
 use Rattle.gear.specs.declared.answer.Outcome.{Outcome}
 use Rattle.gear.specs.declared.record.Gear.{Gear}
 use Rattle.gear.specs.Marks.{walk_fit}
@@ -49,7 +54,7 @@ use Rattle.numbers.proofs.Logic.{by_cases}
 use Rattle.numbers.proofs.Table.{at}
 use Rattle.runner.specs.Ask.{asked}
 use Rattle.runner.specs.Line.{answer_text, digits, end_text, line_text, number_text}
-use Rattle.runner.specs.declared.ask.Asked.TheVariants.{Told as Answered}
+use Rattle.std.specs.Prelude.{Ok}
 use Rattle.runner.specs.Run.{last_of, lines_of, performed, printed, state_after, text_after}
 use Rattle.step.specs.Step.{step as step_rule}
 
@@ -67,11 +72,8 @@ need_at place =
     (pick (eqb place 2) 3
     (pick (ltb place 9) 0 (pick (ltb place 15) 4 (pick (eqb place 15) 4 (pick (eqb place 16) 1 0))))))
 
-abbrev need_by : ℕ → ℕ → ℕ
-need_by kind place =
-    pick (eqb kind 1) (need_at place)
-    (pick (eqb kind 2) 1
-    (pick (eqb kind 3) 1 (pick (eqb kind 4) 3 (pick (eqb kind 5) (need_at place) (pick (eqb kind 6) (need_at place) 0)))))
+abbrev need_by : Option Kind → ℕ → ℕ
+need_by kind place = by_kind kind (need_at place) 1 1 3 (need_at place) (need_at place) 0
 
 agrees : ℕ → ℕ → Bool
 unfolding kind_of
@@ -82,7 +84,7 @@ low : (id : ℕ) → id < 256 → need_of id ≡ need_by (kind_of id) (id % 32)
 unfolding agrees kind_of
 low id h = eqb→eq (need_of id) (need_by (kind_of id) (id % 32)) (at agrees (replicate 256 0) tt id (rw length-replicate h))
 
-no_kind : (id : ℕ) → 256 ≤ id → kind_of id ≡ 0
+no_kind : (id : ℕ) → 256 ≤ id → kind_of id ≡ None
 unfolding kind_of
 no_kind id h =
     simp (
@@ -139,8 +141,8 @@ by_rule id a b c d e = rw (← same_need id, ← by_number_lem id a b c d e)
 
 abbrev by_need : Capabilities → ℕ → Answer → Answer
 by_need can need value =
-    by_number need value (pick can.xy value (Incapable Xy)) (pick can.tc value (Incapable Tc))
-    (pick (ltb 0 can.channels) value (Incapable Channels)) Nothing
+    by_number need value (pick can.xy value (Ok (Incapable Xy))) (pick can.tc value (Ok (Incapable Tc)))
+    (pick (ltb 0 can.channels) value (Ok (Incapable Channels))) (Ok Nothing)
 
 abbrev able : Capabilities → ℕ → Bool
 able can need = by_number need true can.xy can.tc (ltb 0 can.channels) false
@@ -184,23 +186,38 @@ limit_told :
 unfolding limit_value limit_before needed
 limit_told can l place = if_told can Tc _
 
+-- a colour value now and before, by the kind of its id
+abbrev valued : Colour → Option Kind → ℕ → Result ℕ NoValue
+valued c kind place =
+    by_kind kind (shown c.can (face c.active) place) (Ok 0xFFFF) (Ok 0) (limit_value c.can c.limits place)
+    (shown c.can (face c.pending) place)
+    (shown c.can c.report place)
+    (Err Unknown)
+
+abbrev valued_before : Colour → Option Kind → ℕ → Answer
+valued_before c kind place =
+    by_kind kind (shown_before c.can (face c.active) place) (Ok (Value 0xFFFF)) (Ok (Value 0)) (limit_before c.can c.limits place)
+    (shown_before c.can (face c.pending) place)
+    (shown_before c.can c.report place)
+    (Ok Nothing)
+
+kind_told :
+    (c : Colour) (kind : Option Kind) (place : ℕ) →
+    Told c.can (need_by kind place) (value_answer (valued c kind place)) (valued_before c kind place)
+unfolding value_answer unexplained
+kind_told c (Some Active) place = shown_told c.can (face c.active) place
+kind_told c (Some Primary) place = (refl, refl, refl)
+kind_told c (Some Primaries) place = (refl, refl, refl)
+kind_told c (Some Limit) place = limit_told c.can c.limits place
+kind_told c (Some Staged) place = shown_told c.can (face c.pending) place
+kind_told c (Some Report) place = shown_told c.can c.report place
+kind_told c None place = (refl, refl, refl)
+
 value_told :
     (c : Colour) (id : ℕ) →
     Told c.can (need_by (kind_of id) (id % 32)) (value_answer (color_value c id)) (value_before c id)
-unfolding color_value value_before value_answer unexplained
-value_told c id =
-    by_cases (eqb (kind_of id) 1) (λ k. rw k (shown_told c.can (face c.active) (id % 32)))
-    (λ k.
-    by_cases (eqb (kind_of id) 2) (λ l. rw (k, l) (refl, refl, refl))
-    (λ l.
-    by_cases (eqb (kind_of id) 3) (λ m. rw (k, l, m) (refl, refl, refl))
-    (λ m.
-    by_cases (eqb (kind_of id) 4) (λ n. rw (k, l, m, n) (limit_told c.can c.limits (id % 32)))
-    (λ n.
-    by_cases (eqb (kind_of id) 5) (λ p. rw (k, l, m, n, p) (shown_told c.can (face c.pending) (id % 32)))
-    (λ p.
-    by_cases (eqb (kind_of id) 6) (λ q. rw (k, l, m, n, p, q) (shown_told c.can c.report (id % 32)))
-    (λ q. rw (k, l, m, n, p, q) (refl, refl, refl)))))))
+unfolding color_value value_before
+value_told c id = kind_told c (kind_of id) (id % 32)
 
 -- ## Of the calls
 
@@ -227,9 +244,9 @@ step_value g id b c = ap (λ (o : Outcome). o.answer) (stepped g 5 id b c) ∙ b
 
 asked_value :
     (s : List ℕ) (kind id b c : ℕ) → well_formed s ≡ true → kind ≡ 5 →
-    asked s kind id b c ≡ Answered (explained_by (last_of s) id)
+    asked s kind id b c ≡ Ok (explained_by (last_of s) id)
 asked_value s kind id b c good five =
-    ((file_judged s []).served good).by_ask kind id b c ∙ ap Answered (rw five (step_value (last_of s) id b c))
+    ((file_judged s []).served good).by_ask kind id b c ∙ ap Ok (rw five (step_value (last_of s) id b c))
 
 pub host_absent : HostAbsent
 unfolding asked_code asked_detail

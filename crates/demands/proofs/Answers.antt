@@ -1,29 +1,26 @@
 -- Which answers are usual, neither a refusal nor the word that a gear lacks something: those that the rules give where nothing is refused.
 use Prim.Native.Nat.{ℕ, ◌≤◌, ◌/◌, ◌%◌}
+use Rattle.std.specs.Prelude.{Result, Ok, Err}
 use mathlib.Core.Path.{◌≡◌, refl}
 use mathlib.Core.Bool.{Bool, true, false}
 use mathlib.Core.Option.{Option, none, some}
+use Rattle.std.specs.Prelude.{Option as Optional, None, Some}
 use lib.Dec.{leb, ltb, eqb}
 use borrow.Author.Tests.{eqb-true, ltb-true, ltb-false}
 use Rattle.demands.specs.Calls.{told}
 use Rattle.demands.specs.Refusals.{listed, write_bytes, query_bytes, group_refusal, is_refusal, Judged}
 use Rattle.demands.proofs.Bytes.{write_listed, write_high, command_high, query_listed}
-use Rattle.bank.specs.declared.memory.Location.{Location}
-use Rattle.bank.specs.declared.memory.Location.TheVariants.{Byte as Found, Nothing as Unread}
 use Rattle.calls.specs.Address.{beyond, judged, matching}
 use Rattle.calls.specs.declared.address.Address.{Address}
 use Rattle.calls.specs.declared.address.Address.TheVariants.{Short, Group, Broadcast, Unaddressed}
 use Rattle.calls.specs.Pairing.{hear, heard_answer, waits}
-use Rattle.colour.specs.declared.value.ColourValue.{ColourValue}
-use Rattle.colour.specs.declared.value.ColourValue.TheVariants.{Value as Shown, Unknown as NoSuchId, Incapable as Lacking}
-use Rattle.gear.specs.Answer.{flag, location_answer, refused, unexplained, value_answer}
-use Rattle.gear.specs.declared.answer.Answer.{Answer}
-use Rattle.gear.specs.declared.answer.Answer.TheVariants.{Done, Value, Nothing}
+use Rattle.colour.specs.declared.value.NoValue.{NoValue}
+use Rattle.colour.specs.declared.value.NoValue.TheVariants.{Unknown as NoSuchId, Incapable as Lacking}
+use Rattle.gear.specs.Answer.{Answer, flag, location_answer, refused, unexplained, value_answer}
+use Rattle.gear.specs.declared.answer.Reply.TheVariants.{Done, Value, Nothing}
 use Rattle.gear.specs.declared.answer.Outcome.{Outcome}
 use Rattle.gear.specs.declared.answer.Refusal.{Refusal}
 use Rattle.gear.specs.declared.answer.Refusal.TheVariants.{Byte}
-use Rattle.gear.specs.declared.marks.Walk.{Walk}
-use Rattle.gear.specs.declared.marks.Walk.TheVariants.{Off, At}
 use Rattle.gear.specs.declared.record.Gear.{Gear}
 use Rattle.gear.specs.Record.{fitb}
 use Rattle.gear.specs.Serve.{serve}
@@ -36,9 +33,9 @@ use Rattle.query.specs.declared.told.Seen.{Seen}
 use Rattle.query.specs.Walk.{device_type, next, next_at, next_device_type}
 
 data Plain : Answer → Type 0 where
-  done : Plain Done
-  value : {n : ℕ} → Plain (Value n)
-  nothing : Plain Nothing
+  done : Plain (Ok Done)
+  value : {n : ℕ} → Plain (Ok (Value n))
+  nothing : Plain (Ok Nothing)
 
 abbrev pub Usual : Answer → Type 0
 Usual a = (is_refusal a ≡ false) × (unexplained a ≡ a)
@@ -57,7 +54,7 @@ refused_strictly : (g : Gear) (r : Refusal) {o : Outcome} → o ≡ refused g r 
 unfolding unexplained
 refused_strictly g r e = (e, rw e)
 
-done_usual : {a : Answer} → a ≡ Done → Usual a
+done_usual : {a : Answer} → a ≡ Ok Done → Usual a
 done_usual e = rw e (plain done)
 
 -- ## Parts of answers
@@ -66,10 +63,10 @@ either : (t : Bool) {a b : Answer} → Plain a → Plain b → Plain (pick t a b
 either true p q = p
 either false p q = q
 
-pub done_plain : Usual Done
+pub done_plain : Usual (Ok Done)
 done_plain = plain done
 
-pub number_plain : (n : ℕ) → Usual (Value n)
+pub number_plain : (n : ℕ) → Usual (Ok (Value n))
 number_plain n = plain value
 
 pub flag_plain : (t : Bool) → Usual (flag t)
@@ -77,22 +74,22 @@ unfolding flag
 flag_plain t = plain value
 
 -- a colour value alone may tell that the gear lacks something
-pub value_served : (v : ColourValue) → is_refusal (value_answer v) ≡ false
+pub value_served : (v : Result ℕ NoValue) → is_refusal (value_answer v) ≡ false
 unfolding value_answer
-value_served (Shown n) = refl
-value_served NoSuchId = refl
-value_served (Lacking need) = refl
+value_served (Ok n) = refl
+value_served (Err NoSuchId) = refl
+value_served (Err (Lacking need)) = refl
 
-pub control_plain : (v : ColourValue) → Usual (unexplained (value_answer v))
+pub control_plain : (v : Result ℕ NoValue) → Usual (unexplained (value_answer v))
 unfolding value_answer unexplained
-control_plain (Shown n) = plain value
-control_plain NoSuchId = plain nothing
-control_plain (Lacking need) = plain nothing
+control_plain (Ok n) = plain value
+control_plain (Err NoSuchId) = plain nothing
+control_plain (Err (Lacking need)) = plain nothing
 
-pub location_plain : (l : Location) → Usual (location_answer l)
+pub location_plain : (l : Optional ℕ) → Usual (location_answer l)
 unfolding location_answer
-location_plain (Found b) = plain value
-location_plain Unread = plain nothing
+location_plain (Some b) = plain value
+location_plain None = plain nothing
 
 pub hear_plain : (g : Gear) (frame : ℕ) (repeats : Bool) → Usual (hear g frame repeats).answer
 unfolding hear heard_answer
@@ -145,10 +142,10 @@ type_plain : (g : Gear) → Plain (device_type g).answer
 unfolding device_type
 type_plain g = by_cases (eqb g.unit.count 0) (λ e. rw e value) (λ e. by_cases (eqb g.unit.count 1) (λ t. rw (e, t) value) (λ t. rw (e, t) value))
 
-next_plain : (g : Gear) (w : Walk) → Plain (next g w).answer
+next_plain : (g : Gear) (w : Optional ℕ) → Plain (next g w).answer
 unfolding next next_at
-next_plain g Off = nothing
-next_plain g (At n) = by_cases (leb g.unit.count n) (λ e. rw e value) (λ e. rw e value)
+next_plain g None = nothing
+next_plain g (Some n) = by_cases (leb g.unit.count n) (λ e. rw e value) (λ e. rw e value)
 
 pub query_judged : (g : Gear) (b : ℕ) → Strictly (pick (listed query_bytes b) none (some Byte)) g (query g b)
 unfolding query next_device_type

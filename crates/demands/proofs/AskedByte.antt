@@ -7,14 +7,14 @@ use mathlib.Core.Option.{Option, none, some}
 use lib.ListN.{get_or, take, drop}
 use lib.Seq.{get_or-drop}
 use native.Mathlib.Omega.{arith}
+use Rattle.std.specs.declared.result.Result.TheVariants.{Err}
 use Rattle.demands.specs.Calls.{Call}
 use Rattle.demands.specs.Refusals.{listed, query_bytes, table_of, write_bytes}
 use Rattle.demands.specs.Steps.{entry, kinds, step_refusal}
 use Rattle.demands.proofs.Named.{told_named}
 use Rattle.demands.proofs.Steps.{step_exactly}
-use Rattle.file.specs.declared.Verdict.TheVariants.{Good}
+use Rattle.std.specs.Prelude.{Ok}
 use Rattle.file.specs.File.{byte, checked, profile_at, step_count, steps_of, well_formed}
-use Rattle.gear.specs.declared.answer.Answer.TheVariants.{Refused}
 use Rattle.gear.specs.declared.answer.Refusal.{Refusal}
 use Rattle.gear.specs.declared.answer.Refusal.TheVariants.{Byte}
 use Rattle.gear.specs.declared.record.Gear.{Gear}
@@ -52,7 +52,7 @@ module _ (s : List ℕ) (bytes : (i : ℕ) → byte s i < 256) where
       let before = state_after (steps_of s) (first_of s) k in
       step_kept before _ _ _ (step_bytes (k * 4 + 2)) (step_bytes (k * 4 + 3)) (state_fit first k) _
 
-  last_fit : checked s ≡ Good → fitb (last_of s) ≡ true
+  last_fit : checked s ≡ Ok tt → fitb (last_of s) ≡ true
   last_fit good = state_fit (good_fit s bytes good) (count_of s)
 
 -- ## The table has no other number for a step
@@ -90,13 +90,13 @@ to_fit (some call) g fit h = rw fit h
 
 -- ## So of a step
 
-pub step_byte : (g : Gear) (kind a b c : ℕ) (r : Refusal) → fitb g ≡ true → (step g kind a b c).answer ≡ Refused r → r ≡ Byte
+pub step_byte : (g : Gear) (kind a b c : ℕ) (r : Refusal) → fitb g ≡ true → (step g kind a b c).answer ≡ Err r → r ≡ Byte
 step_byte g kind a b c r fit e =
     let t = entry (kinds a b c) kind in
     subst OnlyByte (told_named (step_refusal t g) g (step g kind a b c) r (step_exactly g kind a b c) e)
     (to_fit t g fit (each_at (kinds a b c) kind (kinds_each a b c)))
 
 pub last_byte :
-    (s : List ℕ) → ((i : ℕ) → byte s i < 256) → checked s ≡ Good → (kind a b c : ℕ) (r : Refusal) →
-    (step (last_of s) kind a b c).answer ≡ Refused r → r ≡ Byte
+    (s : List ℕ) → ((i : ℕ) → byte s i < 256) → checked s ≡ Ok tt → (kind a b c : ℕ) (r : Refusal) →
+    (step (last_of s) kind a b c).answer ≡ Err r → r ≡ Byte
 last_byte s bytes good kind a b c r e = step_byte (last_of s) kind a b c r (last_fit s bytes good) e

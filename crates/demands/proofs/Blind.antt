@@ -9,8 +9,8 @@ use Rattle.bank.specs.declared.build.Banks.{Banks}
 use Rattle.calls.proofs.Banks.{unbanked, arc_power_blind, query_blind, standard_write_blind}
 use Rattle.calls.proofs.BlindCalls.{blind_calls}
 use Rattle.calls.specs.Memory.{rebanked, write_memory_call}
-use Rattle.gear.specs.declared.answer.Answer.{Answer}
 use Rattle.gear.specs.declared.record.Gear.{Gear}
+use Rattle.gear.specs.Answer.{Answer}
 use Rattle.gear.specs.Parts.{with_banks}
 use Rattle.gear.specs.Record.{fitb}
 use Rattle.gear.specs.Serve.{serve}

@@ -8,9 +8,9 @@ use lib.ListN.{replicate, length-replicate}
 use native.Mathlib.Nat.{le-div_iff_mul-le}
 use native.Mathlib.Omega.{arith}
 use borrow.Author.Tests.{leb-true, lt-leb, ltb-true, ltb-false, ne_eqb}
+use Rattle.std.specs.Prelude.{None}
 use Rattle.demands.specs.Refusals.{listed, write_bytes, query_bytes}
 use Rattle.gear.specs.Command.{command_of}
-use Rattle.gear.specs.declared.command.StandardCommand.TheVariants.{Unknown}
 use Rattle.gear.proofs.Refusals.{is_write}
 use Rattle.numbers.specs.Numbers.{both}
 use Rattle.numbers.proofs.Logic.{by_cases, both_left, both_right}
@@ -63,7 +63,7 @@ high_half b h = (le-div_iff_mul-le (lit< tt)).1 h
 pub write_high : (b : ℕ) → 256 ≤ b → listed write_bytes b ≡ false
 write_high b h = unlisted write_bytes b refl h
 
-pub command_high : (b : ℕ) → 256 ≤ b → command_of b ≡ Unknown
+pub command_high : (b : ℕ) → 256 ≤ b → command_of b ≡ None
 unfolding command_of
 command_high b h =
     let half = high_half b h in

@@ -1,5 +1,6 @@
 -- Every call refuses exactly what document 01's table says; and none but a colour value tells that the gear lacks something.
 use Prim.Native.Nat.{ℕ}
+use Rattle.std.specs.Prelude.{Result}
 use mathlib.Core.Path.{◌≡◌, refl, subst}
 use mathlib.Core.Bool.{true}
 use mathlib.Core.Option.{Option, none, some}
@@ -15,10 +16,9 @@ use Rattle.calls.specs.Pairing.{hear_call, hear_elsewhere_call, holds_call}
 use Rattle.calls.specs.Power.{power_cycle_call}
 use Rattle.calls.specs.Reads.{actual_level_call, failure_bits_call, lamp_failure_call, lamp_on_call, status_call, thermal_call, type_call}
 use Rattle.calls.specs.Setters.{set_enabled_call, set_faults_call, set_lamp_failure_call, set_lamp_starting_call}
-use Rattle.colour.specs.declared.value.ColourValue.{ColourValue}
-use Rattle.gear.specs.Answer.{unexplained, value_answer}
+use Rattle.colour.specs.declared.value.NoValue.{NoValue}
+use Rattle.gear.specs.Answer.{Answer, unexplained, value_answer}
 use Rattle.gear.specs.Command.{command_of}
-use Rattle.gear.specs.declared.answer.Answer.{Answer}
 use Rattle.gear.specs.declared.answer.Outcome.{Outcome}
 use Rattle.gear.specs.declared.answer.Refusal.{Refusal}
 use Rattle.gear.specs.declared.answer.Refusal.TheVariants.{Unfit, Byte}
@@ -48,7 +48,7 @@ answered :
 unfolding tell unexplained
 answered g a t h = by_cases (fitb g) (λ e. rw e (h.0, λ x. h.1)) (λ e. rw e (refl, λ x. refl))
 
-valued : (g : Gear) (v : ColourValue) → Judged (pick (fitb g) none (some Unfit)) g (told g (tell g (value_answer v)))
+valued : (g : Gear) (v : Result ℕ NoValue) → Judged (pick (fitb g) none (some Unfit)) g (told g (tell g (value_answer v)))
 unfolding tell
 valued g v = by_cases (fitb g) (λ e. rw e (value_served v)) (λ e. rw e refl)
 

@@ -9,18 +9,15 @@ use lib.Dec.{eqb, leb}
 use lib.ListN.{take}
 use native.Mathlib.Omega.{arith}
 use borrow.Author.Tests.{le-leb, eq-eqb, leb-true, eqb-true, eqb-false}
+use Rattle.std.specs.Prelude.{Option, None, Some}
 use Rattle.demands.specs.Fit.{Accepted, OfType, Floor, Effective, Fit}
 use Rattle.colour.specs.declared.limits.Limits.{Limits}
 use Rattle.colour.specs.declared.tint.ColorMode.{ColorMode}
-use Rattle.colour.specs.declared.tint.ColorMode.TheVariants.{None, Cct, Xy, Rgb}
+use Rattle.colour.specs.declared.tint.ColorMode.TheVariants.{None as NoMode, Cct, Xy, Rgb}
 use Rattle.colour.specs.declared.tint.Tint.{Tint}
 use Rattle.colour.specs.Limits.{effective_coolest, effective_warmest}
 use Rattle.colour.specs.Tint.{is_cct, lies_within}
-use Rattle.gear.specs.declared.marks.Walk.{Walk}
-use Rattle.gear.specs.declared.marks.Walk.TheVariants.{Off, At}
 use Rattle.gear.specs.declared.profile.Profile.{Profile}
-use Rattle.gear.specs.declared.profile.Short.{Short}
-use Rattle.gear.specs.declared.profile.Short.TheVariants.{Missing, Address}
 use Rattle.gear.specs.declared.profile.Unit.{Unit}
 use Rattle.gear.specs.declared.record.Gear.{Gear}
 use Rattle.gear.specs.Marks.{walk_fit}
@@ -118,18 +115,18 @@ module _ (l : Limits) where
 
 -- ## The clauses on an address, a walk, a colour and a unit
 
-short_exactly : (s : Short) → Exactly ((a : ℕ) → s ≡ Address a → a ≤ 63) (short_fit s)
+short_exactly : (s : Option ℕ) → Exactly ((a : ℕ) → s ≡ Some a → a ≤ 63) (short_fit s)
 unfolding short_fit
-short_exactly Missing = (λ h. refl, λ e a m. let no : ◌≡◌ {A = ℕ} 0 1 = cc in omega arith)
-short_exactly (Address n) = (λ h. le-leb n 63 (h n refl), λ e a m. let same : n ≡ a = cc in omega (arith, leb-true n 63 e))
+short_exactly None = (λ h. refl, λ e a m. let no : ◌≡◌ {A = ℕ} 0 1 = cc in omega arith)
+short_exactly (Some n) = (λ h. le-leb n 63 (h n refl), λ e a m. let same : n ≡ a = cc in omega (arith, leb-true n 63 e))
 
-walk_exactly : (w : Walk) → Exactly ((n : ℕ) → w ≡ At n → n ≤ 16) (walk_fit w)
+walk_exactly : (w : Option ℕ) → Exactly ((n : ℕ) → w ≡ Some n → n ≤ 16) (walk_fit w)
 unfolding walk_fit
-walk_exactly Off = (λ h. refl, λ e n m. let no : ◌≡◌ {A = ℕ} 0 1 = cc in omega arith)
-walk_exactly (At k) = (λ h. le-leb k 16 (h k refl), λ e n m. let same : k ≡ n = cc in omega (arith, leb-true k 16 e))
+walk_exactly None = (λ h. refl, λ e n m. let no : ◌≡◌ {A = ℕ} 0 1 = cc in omega arith)
+walk_exactly (Some k) = (λ h. le-leb k 16 (h k refl), λ e n m. let same : k ≡ n = cc in omega (arith, leb-true k 16 e))
 
 mode_exactly : {A : Type 0} {test : Bool} (m : ColorMode) → Exactly A test → Exactly (m ≡ Cct → A) (pick (is_cct m) test true)
-mode_exactly None p = (λ h. refl, λ e z. let no : ◌≡◌ {A = ℕ} 0 1 = cc in absurd (omega arith))
+mode_exactly NoMode p = (λ h. refl, λ e z. let no : ◌≡◌ {A = ℕ} 0 1 = cc in absurd (omega arith))
 mode_exactly Xy p = (λ h. refl, λ e z. let no : ◌≡◌ {A = ℕ} 0 1 = cc in absurd (omega arith))
 mode_exactly Cct p = (λ h. p.0 (h refl), λ e z. p.1 e)
 mode_exactly Rgb p = (λ h. refl, λ e z. let no : ◌≡◌ {A = ℕ} 0 1 = cc in absurd (omega arith))
@@ -143,7 +140,7 @@ active_exactly t l = mode_exactly t.mode (also (at_most (effective_coolest l) t.
 abbrev UnitSo : ℕ → Unit → Type 0
 UnitSo most u =
     (u.count ≤ most) ×
-    ((u.random ≤ 16777215) × ((1 ≤ u.minimum) × ((u.minimum ≤ 254) × ((a : ℕ) → u.short ≡ Address a → a ≤ 63))))
+    ((u.random ≤ 16777215) × ((1 ≤ u.minimum) × ((u.minimum ≤ 254) × ((a : ℕ) → u.short ≡ Some a → a ≤ 63))))
 
 unit_exactly : (most : ℕ) (u : Unit) → Exactly (UnitSo most u) (unit_fit most u)
 unfolding unit_fit

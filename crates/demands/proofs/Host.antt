@@ -7,6 +7,7 @@ use lib.Dec.{leb}
 use lib.ListN.{length}
 use native.Mathlib.Omega.{arith}
 use borrow.Author.Tests.{leb-true, leb-false}
+use Rattle.std.specs.declared.result.Result.TheVariants.{Ok, Err}
 use Rattle.dali_gear.specs.Code.{answer_code, asked_code, asked_detail, ran_code, ran_detail, verdict_code, verdict_detail}
 use Rattle.demands.specs.Calls.{Call}
 use Rattle.demands.specs.Host.{Five, Host}
@@ -15,15 +16,15 @@ use Rattle.demands.proofs.Given.{refusals}
 use Rattle.demands.proofs.ProfileAndFile.{file_judged}
 use Rattle.demands.proofs.Steps.{stepped}
 use Rattle.file.specs.File.{byte, checked, well_formed}
-use Rattle.gear.specs.declared.answer.Answer.{Answer}
-use Rattle.gear.specs.declared.answer.Answer.TheVariants.{Done, Value, Nothing, Incapable, Refused}
+use Rattle.gear.specs.declared.answer.Reply.TheVariants.{Done, Value, Nothing, Incapable}
 use Rattle.gear.specs.declared.answer.Outcome.{Outcome}
 use Rattle.gear.specs.declared.answer.Refusal.{Refusal}
 use Rattle.gear.specs.declared.answer.Refusal.TheVariants.{Profile, Unfit, Byte, Group, File, Length}
 use Rattle.gear.specs.declared.record.Gear.{Gear}
+use Rattle.gear.specs.Answer.{Answer}
 use Rattle.gear.specs.Record.{fitb}
 use Rattle.numbers.proofs.Logic.{by_cases}
-use Rattle.runner.specs.declared.ask.Asked.TheVariants.{Told}
+use Rattle.std.specs.Prelude.{Ok}
 use Rattle.runner.specs.Ask.{asked}
 use Rattle.runner.specs.Run.{last_of, ran, room}
 use Rattle.runner.proofs.Whole.{reported_none}
@@ -31,18 +32,18 @@ use Rattle.step.specs.Step.{step}
 
 -- ## A step is never refused with 5
 
-five_file : (a : Answer) → answer_code a ≡ 5 → a ≡ Refused File
+five_file : (a : Answer) → answer_code a ≡ 5 → a ≡ Err File
 unfolding answer_code
-five_file Done e = absurd (omega arith)
-five_file (Value n) e = absurd (omega arith)
-five_file Nothing e = absurd (omega arith)
-five_file (Incapable need) e = absurd (omega arith)
-five_file (Refused Profile) e = absurd (omega arith)
-five_file (Refused Unfit) e = absurd (omega arith)
-five_file (Refused Byte) e = absurd (omega arith)
-five_file (Refused Group) e = absurd (omega arith)
-five_file (Refused File) e = refl
-five_file (Refused Length) e = absurd (omega arith)
+five_file (Ok Done) e = absurd (omega arith)
+five_file (Ok (Value n)) e = absurd (omega arith)
+five_file (Ok Nothing) e = absurd (omega arith)
+five_file (Ok (Incapable need)) e = absurd (omega arith)
+five_file (Err Profile) e = absurd (omega arith)
+five_file (Err Unfit) e = absurd (omega arith)
+five_file (Err Byte) e = absurd (omega arith)
+five_file (Err Group) e = absurd (omega arith)
+five_file (Err File) e = refl
+five_file (Err Length) e = absurd (omega arith)
 
 stepped_not_five : (t : Option Call) (g : Gear) (o : Outcome) → Stepped t g o → answer_code o.answer ≡ 5 → ⊥
 unfolding answer_code
@@ -57,15 +58,15 @@ step_not_five g kind a b c five = stepped_not_five (entry (kinds a b c) kind) g 
 
 -- ## Of the numbers 1 to 4 it is refused with 3 only
 
-code_refused : (a : Answer) → 0 < answer_code a → answer_code a < 5 → (r : Refusal) × (a ≡ Refused r)
+code_refused : (a : Answer) → 0 < answer_code a → answer_code a < 5 → (r : Refusal) × (a ≡ Err r)
 unfolding answer_code
-code_refused Done h l = absurd (omega arith)
-code_refused (Value n) h l = absurd (omega arith)
-code_refused Nothing h l = absurd (omega arith)
-code_refused (Incapable need) h l = absurd (omega arith)
-code_refused (Refused r) h l = (r, refl)
+code_refused (Ok Done) h l = absurd (omega arith)
+code_refused (Ok (Value n)) h l = absurd (omega arith)
+code_refused (Ok Nothing) h l = absurd (omega arith)
+code_refused (Ok (Incapable need)) h l = absurd (omega arith)
+code_refused (Err r) h l = (r, refl)
 
-code_three : (a : Answer) (r : Refusal) → a ≡ Refused r → r ≡ Byte → answer_code a ≡ 3
+code_three : (a : Answer) (r : Refusal) → a ≡ Err r → r ≡ Byte → answer_code a ≡ 3
 unfolding answer_code
 code_three a r e same = rw (e, same)
 
@@ -124,7 +125,7 @@ module _ (s : List ℕ) where
       (λ good.
       let told = (judged.served good).by_ask kind a b c in
       let named = code_refused _ (rw told at low) (rw told at high) in
-      rw told (code_three _ named.0 named.1 (judged.asked_byte bytes kind a b c named.0 (told ∙ ap Told named.1))))
+      rw told (code_three _ named.0 named.1 (judged.asked_byte bytes kind a b c named.0 (told ∙ ap Ok named.1))))
       (λ bad. absurd (omega (arith, rw ((judged.given bad).1.by_ask kind a b c) at high)))
 
 pub host : Host

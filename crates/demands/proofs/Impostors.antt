@@ -5,6 +5,7 @@ use mathlib.Core.Bool.{true}
 use mathlib.Core.List.{List, [], ◌∷◌}
 use lib.Dec.{eqb}
 use native.Mathlib.Omega.{arith}
+use Rattle.std.specs.declared.result.Result.TheVariants.{Ok, Err}
 use Rattle.demands.specs.Calls.{Behaviour, perform}
 use Rattle.demands.specs.Calls.Call.{ArcPower}
 use Rattle.demands.specs.Impostors.{Caught, zeroed}
@@ -12,8 +13,8 @@ use Rattle.demands.specs.Readings.{AllHold, Reading, number}
 use Rattle.demands.specs.Table.{RowsOf, led, numbered, table}
 use Rattle.demands.proofs.Readings.{readings}
 use Rattle.gear.proofs.Built.{fresh_fit}
-use Rattle.gear.specs.declared.answer.Answer.{Answer}
-use Rattle.gear.specs.declared.answer.Answer.TheVariants.{Done, Value, Nothing, Incapable, Refused}
+use Rattle.gear.specs.declared.answer.Reply.TheVariants.{Done, Value, Nothing, Incapable}
+use Rattle.gear.specs.Answer.{Answer}
 use Rattle.gear.specs.Profile.{accepted, short_fit, unit_fit}
 use Rattle.gear.specs.Record.{fresh_gear, new_gear}
 use Rattle.numbers.proofs.Logic.{by_cases, no_false}
@@ -30,13 +31,13 @@ led_max = rw led_accepted
 
 -- ## What an impostor answers
 
-never_more : (a : Answer) (n : ℕ) → zeroed a ≡ Value (suc n) → ⊥
+never_more : (a : Answer) (n : ℕ) → zeroed a ≡ Ok (Value (suc n)) → ⊥
 unfolding zeroed
-never_more Done n e = let z : ◌≡◌ {A = ℕ} 0 1 = cc in omega arith
-never_more (Value m) n e = let z : ◌≡◌ {A = ℕ} 0 (suc n) = cc in omega arith
-never_more Nothing n e = let z : ◌≡◌ {A = ℕ} 0 (suc n) = cc in omega arith
-never_more (Incapable need) n e = let z : ◌≡◌ {A = ℕ} 0 (suc n) = cc in omega arith
-never_more (Refused r) n e = let z : ◌≡◌ {A = ℕ} 0 1 = cc in omega arith
+never_more (Ok Done) n e = let z : ◌≡◌ {A = ℕ} 0 1 = cc in omega arith
+never_more (Ok (Value m)) n e = let z : ◌≡◌ {A = ℕ} 0 (suc n) = cc in omega arith
+never_more (Ok Nothing) n e = let z : ◌≡◌ {A = ℕ} 0 (suc n) = cc in omega arith
+never_more (Ok (Incapable need)) n e = let z : ◌≡◌ {A = ℕ} 0 (suc n) = cc in omega arith
+never_more (Err r) n e = let z : ◌≡◌ {A = ℕ} 0 1 = cc in omega arith
 
 -- the rows of one reading hold where all of them do
 some_hold : (f : Behaviour) (n : ℕ) (rows : List Reading) → AllHold f rows → AllHold f (numbered n rows)
@@ -47,7 +48,7 @@ some_hold f n (row ∷ rows) h =
 walked : RowsOf 10 perform
 walked = some_hold perform 10 table readings
 
-two_answers : (a : Answer) → a ≡ Value 254 → a ≡ Value 8 → ⊥
+two_answers : (a : Answer) → a ≡ Ok (Value 254) → a ≡ Ok (Value 8) → ⊥
 two_answers a p q = let z : ◌≡◌ {A = ℕ} 254 8 = cc in omega arith
 
 two_limits : (n : ℕ) → n ≡ 254 → n ≡ 200 → ⊥

@@ -4,6 +4,7 @@ use mathlib.Core.Path.{◌≡◌, refl}
 use mathlib.Core.List.{List, [], ◌∷◌, Memᴰ as Among}
 use lib.ListN.{get_or, length}
 use lib.Seq.{get_or-set_same}
+use Rattle.std.specs.declared.result.Result.TheVariants.{Ok}
 use Rattle.demands.specs.Calls.{Call, perform, told}
 use Rattle.demands.specs.Calls.Call.{ReadMemory, SetLocation, WriteMemory}
 use Rattle.demands.specs.Fit.{Fit}
@@ -17,17 +18,17 @@ use Rattle.bank.specs.Memory.{profile_writable, store_profile, writable, write_m
 use Rattle.bank.specs.Setters.{set_bank1_location}
 use Rattle.calls.specs.Memory.{memory_location_call, rebanked, set_location_call, write_memory_call}
 use Rattle.gear.specs.Answer.{location_answer}
-use Rattle.gear.specs.declared.answer.Answer.TheVariants.{Nothing, Value}
+use Rattle.gear.specs.declared.answer.Reply.TheVariants.{Nothing, Value}
 use Rattle.gear.specs.declared.record.Gear.{Gear}
 use Rattle.gear.specs.Record.{fitb}
 use Rattle.gear.specs.Serve.{serve, tell}
 use Rattle.numbers.proofs.Logic.{by_cases}
 
-reads : (g : Gear) → (perform (ReadMemory 1 0) g).answer ≡ tell g (Value 16)
+reads : (g : Gear) → (perform (ReadMemory 1 0) g).answer ≡ tell g (Ok (Value 16))
 unfolding perform memory_location_call location_answer
 reads g = rw (profile_last_lem g.banks g.unit.bare)
 
-reads_fit : (g : Gear) → Fit g → (perform (ReadMemory 1 0) g).answer ≡ Value 16
+reads_fit : (g : Gear) → Fit g → (perform (ReadMemory 1 0) g).answer ≡ Ok (Value 16)
 unfolding tell
 reads_fit g fit = rw (reads g, (fit_exactly g).0 fit)
 
@@ -42,7 +43,7 @@ set_there :
 unfolding perform set_location_call rebanked serve set_bank1_location store_profile
 set_there g value fit long = rw ((fit_exactly g).0 fit) (get_or-set_same g.banks.profile 0 value 0 long)
 
-not_written : (g : Gear) (value : ℕ) → perform (WriteMemory 1 0 value) g ≡ serve g (told g Nothing)
+not_written : (g : Gear) (value : ℕ) → perform (WriteMemory 1 0 value) g ≡ serve g (told g (Ok Nothing))
 unfolding perform write_memory_call rebanked write_memory_location writable profile_writable location_answer
 not_written g value = refl
 

@@ -4,6 +4,7 @@ use mathlib.Core.Bool.{true, false}
 use mathlib.Core.Option.{Option, none, some}
 use lib.Dec.{ltb}
 use borrow.Author.Tests.{lt-ltb, ltb-true}
+use Rattle.std.specs.declared.result.Result.TheVariants.{Err}
 use Rattle.demands.specs.Calls.{Call, perform}
 use Rattle.demands.specs.Calls.Call.{StandardWrite, ArcPower, Query, Matches, TcStep, XyStep, StoreTcLimit, Stage, Activate, CopyReport, SetFeatures, ColorValue, ColourStatus, Features, ControlByte, FeatureByte, Automatic, ReadMemory, WriteMemory, AdvancesDtr0, ImplementsBank, SetLockByte, SetLocation, SetGearUnit, SetLastOffset, ClearNumber, Hear, HoldsFrame, HearElsewhere, PowerCycle, StatusByte, LampOn, FailureBits, ThermalShutDown, LampFailure, ActualLevel, IsType, SetEnabled, SetLampFailure, SetLampStarting, SetFaults}
 use Rattle.demands.specs.Given.{Unlisted, Above}
@@ -14,7 +15,6 @@ use Rattle.demands.proofs.Exactly.{exactly}
 use Rattle.calls.specs.declared.address.Address.{Address}
 use Rattle.calls.specs.declared.address.Address.TheVariants.{Short, Group, Broadcast, Unaddressed}
 use Rattle.gear.specs.Answer.{refused}
-use Rattle.gear.specs.declared.answer.Answer.TheVariants.{Refused}
 use Rattle.gear.specs.declared.answer.Outcome.{Outcome}
 use Rattle.gear.specs.declared.answer.Refusal.{Refusal}
 use Rattle.gear.specs.declared.answer.Refusal.TheVariants.{Profile as ProfileRefused, Unfit, Byte, Group as GroupAbove, File as FileRefused, Length}
@@ -83,16 +83,16 @@ named (SetFaults faults) = tt
 -- ## From the table to each number
 
 -- a refusal that was given is the one that the table names
-pub told_named : (t : Option Refusal) (g : Gear) (o : Outcome) (r : Refusal) → Judged t g o → o.answer ≡ Refused r → t ≡ some r
+pub told_named : (t : Option Refusal) (g : Gear) (o : Outcome) (r : Refusal) → Judged t g o → o.answer ≡ Err r → t ≡ some r
 told_named none g o r j e = no_false (sym j ∙ ap is_refusal e)
-told_named (some q) g o r j e = ap some (let same : Refused q ≡ Refused r = sym (ap (λ (x : Outcome). x.answer) j) ∙ e in cc)
+told_named (some q) g o r j e = ap some (let same : Err q ≡ Err r = sym (ap (λ (x : Outcome). x.answer) j) ∙ e in cc)
 
 module _ (c : Call) (g : Gear) (r : Refusal) where
-  refusal_named : (perform c g).answer ≡ Refused r → refusal_of c g ≡ some r
+  refusal_named : (perform c g).answer ≡ Err r → refusal_of c g ≡ some r
   refusal_named e = told_named (refusal_of c g) g (perform c g) r (exactly c g) e
 
   -- to a fit record the table's own entry
-  pub fit_named : fitb g ≡ true → (perform c g).answer ≡ Refused r → Named (some r) c
+  pub fit_named : fitb g ≡ true → (perform c g).answer ≡ Err r → Named (some r) c
   fit_named fit e =
       let at : table_of c ≡ some r = rw fit at (refusal_named e) in subst (λ (t : Option Refusal). Named t c) at (named c)
 
@@ -103,11 +103,11 @@ pub unfit_given : (c : Call) (g : Gear) → fitb g ≡ false → perform c g ≡
 unfit_given c g e = rw e at (exactly c g)
 
 -- a refusal of an unfit record is number 2
-unfit_only : (c : Call) (g : Gear) (r : Refusal) → fitb g ≡ false → (perform c g).answer ≡ Refused r → Unfit ≡ r
+unfit_only : (c : Call) (g : Gear) (r : Refusal) → fitb g ≡ false → (perform c g).answer ≡ Err r → Unfit ≡ r
 unfit_only c g r unfit e = let at : some Unfit ≡ some r = rw unfit at (refusal_named c g r e) in cc
 
 -- any other number is the table's own
-pub fit_only : (c : Call) (g : Gear) (r : Refusal) → (Unfit ≡ r → ⊥) → (perform c g).answer ≡ Refused r → (fitb g ≡ true) × Named (some r) c
+pub fit_only : (c : Call) (g : Gear) (r : Refusal) → (Unfit ≡ r → ⊥) → (perform c g).answer ≡ Err r → (fitb g ≡ true) × Named (some r) c
 fit_only c g r other e =
     by_cases (fitb g) (λ fit. (fit, fit_named c g r fit e)) (λ unfit. absurd (other (unfit_only c g r unfit e)))
 

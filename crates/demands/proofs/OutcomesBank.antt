@@ -1,4 +1,5 @@
 -- One outcome of every public function of bank, by its own promise (`Post`, the function's `ensures`).
+use Rattle.std.proofs.Common.{ℕ, Fits, w64}
 use Rattle.demands.specs.Outcome.{OneOutcome}
 use Rattle.demands.proofs.Outcome.{determined}
 use Rattle.bank.proofs.build
@@ -29,8 +30,8 @@ memory::implements_bank κs args r r' e e' = determined
 pub memory::advances_dtr0_past : OneOutcome memory.advances_dtr0_past.Reads.Post
 memory::advances_dtr0_past κs args r r' e e' = determined
 
-pub memory::store_profile : OneOutcome memory.store_profile.Reads.Post
-memory::store_profile κs args r r' e e' = determined
+pub memory::stored_at : (n : ℕ) (fits_n : Fits w64 n) → OneOutcome (memory.stored_at.Reads.Post n fits_n)
+memory::stored_at n fits_n κs args r r' e e' = determined
 
 pub memory::write_memory_location : OneOutcome memory.write_memory_location.Reads.Post
 memory::write_memory_location κs args r r' e e' = determined
@@ -49,9 +50,6 @@ setters::set_bank0_last_offset κs args r r' e e' = determined
 
 pub setters::clear_identification_number : OneOutcome setters.clear_identification_number.Reads.Post
 setters::clear_identification_number κs args r r' e e' = determined
-
-pub memory::is_byte : OneOutcome memory.is_byte.Reads.Post
-memory::is_byte κs args r r' e e' = determined
 
 pub memory::lacks_indicator_byte : OneOutcome memory.lacks_indicator_byte.Reads.Post
 memory::lacks_indicator_byte κs args r r' e e' = determined

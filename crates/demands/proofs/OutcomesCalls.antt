@@ -123,9 +123,6 @@ setters::set_lamp_starting κs args r r' e e' = determined
 pub setters::set_faults : OneOutcome setters.set_faults.Reads.Post
 setters::set_faults κs args r r' e e' = determined
 
-pub address::is_short : OneOutcome address.is_short.Reads.Post
-address::is_short κs args r r' e e' = determined
-
 pub address::is_group_beyond : OneOutcome address.is_group_beyond.Reads.Post
 address::is_group_beyond κs args r r' e e' = determined
 

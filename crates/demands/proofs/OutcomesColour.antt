@@ -25,8 +25,8 @@ activation::arc_power_activation κs args r r' e e' = determined
 pub «activation::recall» : OneOutcome activation.recall.Reads.Post
 «activation::recall» κs args r r' e e' = determined
 
-pub «capability::Capability::number» : OneOutcome capability.Capability.number.Reads.Post
-«capability::Capability::number» κs args r r' e e' = determined
+pub «capability::U8FromCapability::from» : OneOutcome capability.U8FromCapability.from.Reads.Post
+«capability::U8FromCapability::from» κs args r r' e e' = determined
 
 pub «record::Colour::fresh» : OneOutcome record.Colour.fresh.Reads.Post
 «record::Colour::fresh» κs args r r' e e' = determined
@@ -70,6 +70,12 @@ steps::xy_step κs args r r' e e' = determined
 pub steps::store_tc_limit : OneOutcome steps.store_tc_limit.Reads.Post
 steps::store_tc_limit κs args r r' e e' = determined
 
+pub «tint::U8FromColorMode::from» : OneOutcome tint.U8FromColorMode.from.Reads.Post
+«tint::U8FromColorMode::from» κs args r r' e e' = determined
+
+pub «tint::Tint::face» : OneOutcome tint.Tint.face.Reads.Post
+«tint::Tint::face» κs args r r' e e' = determined
+
 pub «tint::Tint::captured» : OneOutcome tint.Tint.captured.Reads.Post
 «tint::Tint::captured» κs args r r' e e' = determined
 
@@ -102,6 +108,9 @@ limits::Limits::effective_coolest κs args r r' e e' = determined
 
 pub limits::Limits::effective_warmest : OneOutcome limits.Limits.effective_warmest.Reads.Post
 limits::Limits::effective_warmest κs args r r' e e' = determined
+
+pub «limits::Limits::hold» : OneOutcome limits.Limits.hold.Reads.Post
+«limits::Limits::hold» κs args r r' e e' = determined
 
 pub steps::stepped_tc : OneOutcome steps.stepped_tc.Reads.Post
 steps::stepped_tc κs args r r' e e' = determined

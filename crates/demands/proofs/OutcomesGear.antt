@@ -12,8 +12,8 @@ use Rattle.gear.proofs.serve
 use Rattle.gear.proofs.settings
 use Rattle.gear.proofs.write
 
-pub «answer::Refusal::number» : OneOutcome answer.Refusal.number.Reads.Post
-«answer::Refusal::number» κs args r r' e e' = determined
+pub «answer::U8FromRefusal::from» : OneOutcome answer.U8FromRefusal.from.Reads.Post
+«answer::U8FromRefusal::from» κs args r r' e e' = determined
 
 pub «answer::flag» : OneOutcome answer.flag.Reads.Post
 «answer::flag» κs args r r' e e' = determined
@@ -96,14 +96,11 @@ record::Gear::reset_gear κs args r r' e e' = determined
 pub scene::scene_at : OneOutcome scene.scene_at.Reads.Post
 scene::scene_at κs args r r' e e' = determined
 
-pub scene::with_scene : OneOutcome scene.with_scene.Reads.Post
-scene::with_scene κs args r r' e e' = determined
-
 pub scene::is_member : OneOutcome scene.is_member.Reads.Post
 scene::is_member κs args r r' e e' = determined
 
-pub scene::with_member : OneOutcome scene.with_member.Reads.Post
-scene::with_member κs args r r' e e' = determined
+pub «serve::serve» : OneOutcome serve.serve.Reads.Post
+«serve::serve» κs args r r' e e' = determined
 
 pub «serve::tell» : OneOutcome serve.tell.Reads.Post
 «serve::tell» κs args r r' e e' = determined

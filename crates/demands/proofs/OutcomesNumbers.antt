@@ -1,35 +1,12 @@
 -- One outcome of every public function of numbers, by its own promise (`Post`, the function's `ensures`).
 use Rattle.demands.specs.Outcome.{OneOutcome}
 use Rattle.demands.proofs.Outcome.{determined}
-use Rattle.numbers.proofs.byte
-use Rattle.numbers.proofs.word
+use Rattle.numbers.proofs.clamp
 
-pub «byte::clamp» : OneOutcome byte.clamp.Reads.Post
-«byte::clamp» κs args r r' e e' = determined
-
-pub «byte::min» : OneOutcome byte.min.Reads.Post
-«byte::min» κs args r r' e e' = determined
-
-pub «byte::max» : OneOutcome byte.max.Reads.Post
-«byte::max» κs args r r' e e' = determined
-
-pub byte::saturating_add : OneOutcome byte.saturating_add.Reads.Post
-byte::saturating_add κs args r r' e e' = determined
-
-pub byte::saturating_sub : OneOutcome byte.saturating_sub.Reads.Post
-byte::saturating_sub κs args r r' e e' = determined
-
-pub «word::clamp» : OneOutcome word.clamp.Reads.Post
-«word::clamp» κs args r r' e e' = determined
-
-pub «word::min» : OneOutcome word.min.Reads.Post
-«word::min» κs args r r' e e' = determined
-
-pub «word::max» : OneOutcome word.max.Reads.Post
-«word::max» κs args r r' e e' = determined
-
-pub word::saturating_add : OneOutcome word.saturating_add.Reads.Post
-word::saturating_add κs args r r' e e' = determined
-
-pub word::saturating_sub : OneOutcome word.saturating_sub.Reads.Post
-word::saturating_sub κs args r r' e e' = determined
+-- at every type T that the function takes: its laws, how it is copied, and what each of its bounds gives, with the code
+pub «numbers::clamp» :
+    (T : _) (laws : _) (copied : _) (ord : _) (ord_code : _) (eq : _) (eq_code : _) (partial_eq : _) (partial_eq_code : _)
+    (partial_ord : _) (partial_ord_code : _) (clone : _) (clone_code : _) →
+    OneOutcome (clamp.Reads.Post T laws copied ord ord_code eq eq_code partial_eq partial_eq_code partial_ord partial_ord_code clone clone_code)
+«numbers::clamp» T laws copied ord ord_code eq eq_code partial_eq partial_eq_code partial_ord partial_ord_code clone clone_code κs args r r' e e' =
+    determined

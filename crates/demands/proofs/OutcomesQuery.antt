@@ -35,9 +35,6 @@ lamp::actual_level_answer κs args r r' e e' = determined
 pub reply::gear_query_reply : OneOutcome reply.gear_query_reply.Reads.Post
 reply::gear_query_reply κs args r r' e e' = determined
 
-pub status::is_missing : OneOutcome status.is_missing.Reads.Post
-status::is_missing κs args r r' e e' = determined
-
 pub status::status_byte : OneOutcome status.status_byte.Reads.Post
 status::status_byte κs args r r' e e' = determined
 

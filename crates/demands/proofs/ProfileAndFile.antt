@@ -7,6 +7,7 @@ use lib.Dec.{leb}
 use lib.ListN.{length}
 use native.Mathlib.Omega.{arith}
 use borrow.Author.Tests.{le-leb}
+use Rattle.std.specs.declared.result.Result.TheVariants.{Err}
 use Rattle.demands.specs.Calls.{perform}
 use Rattle.demands.specs.Given.{ProfileJudged, RefusedAt, ServedWith, FileJudged}
 use Rattle.demands.specs.Refusals.{is_refusal}
@@ -17,16 +18,14 @@ use Rattle.gear.specs.declared.profile.Profile.{Profile}
 use Rattle.gear.specs.Record.{new_gear}
 use Rattle.gear.proofs.Built.{none_unfit}
 use Rattle.numbers.proofs.Logic.{by_cases, no_false}
-use Rattle.gear.specs.declared.answer.Answer.TheVariants.{Refused}
 use Rattle.gear.specs.declared.answer.Refusal.{Refusal}
-use Rattle.file.specs.declared.Verdict.{Verdict}
-use Rattle.file.specs.declared.Verdict.TheVariants.{Good, Bad}
-use Rattle.file.specs.File.{checked, is_good, profile_at, step_count, steps_of, well_formed}
+use Rattle.std.specs.Prelude.{Result, Ok, Err, is_ok, ⊤}
+use Rattle.file.specs.declared.Malformed.{Malformed}
+use Rattle.file.specs.File.{fault, checked, profile_at, step_count, steps_of, well_formed}
 use Rattle.file.proofs.Lowest.{accepted_exactly}
 use Rattle.file.proofs.Shape.{steps_length}
-use Rattle.runner.specs.declared.ask.Asked.TheVariants.{Told, Malformed as Unasked}
-use Rattle.runner.specs.declared.run.Ran.{Ran}
-use Rattle.runner.specs.declared.run.Ran.TheVariants.{Lines, Malformed, Short as TooShort}
+use Rattle.runner.specs.declared.run.RunError.{RunError}
+use Rattle.runner.specs.declared.run.RunError.TheVariants.{Malformed as Unrun, Short as TooShort}
 use Rattle.runner.specs.Ask.{asked, asked_as}
 use Rattle.runner.specs.Line.{bad_text, written}
 use Rattle.runner.specs.Run.{last_of, lines_of, ran, ran_as, ran_into, reported, reported_into, room}
@@ -43,25 +42,25 @@ profile_judged p =
       built = λ a. rw ((profile-exactly p).0 a);
     }
 
-pub bad_at : (v : Verdict) → is_good v ≡ false → (x : ℕ) × (v ≡ Bad x)
-bad_at Good e = no_false (sym e)
-bad_at (Bad x) e = (x, refl)
+pub bad_at : (v : Result ⊤ Malformed) → is_ok v ≡ false → (x : ℕ) × (v ≡ Err (fault x))
+bad_at (Ok u) e = no_false (sym e)
+bad_at (Err m) e = (m.offset, refl)
 
-pub good_at : (v : Verdict) → is_good v ≡ true → v ≡ Good
-good_at Good e = refl
-good_at (Bad x) e = no_false e
+pub good_at : (v : Result ⊤ Malformed) → is_ok v ≡ true → v ≡ Ok tt
+good_at (Ok u) e = refl
+good_at (Err m) e = no_false e
 
-abbrev is_malformed : Ran → Bool
-is_malformed (Lines n) = false
-is_malformed (Malformed x) = true
-is_malformed (TooShort n) = false
+abbrev is_malformed : Result ℕ RunError → Bool
+is_malformed (Ok n) = false
+is_malformed (Err (Unrun m)) = true
+is_malformed (Err (TooShort n)) = false
 
 module _ (s old : List ℕ) where
-  good_so : well_formed s ≡ true → checked s ≡ Good
+  good_so : well_formed s ≡ true → checked s ≡ Ok tt
   good_so e = good_at (checked s) (accepted_exactly s ∙ e)
 
-  bad_so : {x : ℕ} → checked s ≡ Bad x → well_formed s ≡ false
-  bad_so e = sym (accepted_exactly s) ∙ ap is_good e
+  bad_so : {x : ℕ} → checked s ≡ Err (fault x) → well_formed s ≡ false
+  bad_so e = sym (accepted_exactly s) ∙ ap is_ok e
 
   -- ## A malformed file
 
@@ -71,12 +70,12 @@ module _ (s old : List ℕ) where
   room_none e = rw e
 
   bad_reported :
-      {x : ℕ} → checked s ≡ Bad x → room s ≤ length old →
-      (reported s (length old) ≡ Lines (length (bad_text x))) × (reported_into s old ≡ written old 0 (bad_text x))
+      {x : ℕ} → checked s ≡ Err (fault x) → room s ≤ length old →
+      (reported s (length old) ≡ Ok (length (bad_text x))) × (reported_into s old ≡ written old 0 (bad_text x))
   unfolding reported reported_into
   bad_reported bad h = let wide = le-leb (room s) (length old) h in (rw (wide, bad), rw (wide, bad))
 
-  bad_asked : {x : ℕ} (kind a b c : ℕ) → checked s ≡ Bad x → asked s kind a b c ≡ Unasked x
+  bad_asked : {x : ℕ} (kind a b c : ℕ) → checked s ≡ Err (fault x) → asked s kind a b c ≡ Err (fault x)
   unfolding asked
   bad_asked kind a b c bad = rw bad
 
@@ -92,7 +91,7 @@ module _ (s old : List ℕ) where
           by_run = (sym kept.0, sym kept.1);
           by_report = λ h. bad_reported bad.1 (omega arith);
           by_report_short =
-              λ h. let none = reported_none s {old = old} (omega arith) in (sym none.0 ∙ ap TooShort few, sym none.1);
+              λ h. let none = reported_none s {old = old} (omega arith) in (sym none.0 ∙ ap (λ n. Err (TooShort n)) few, sym none.1);
           by_ask = λ kind a b c. bad_asked kind a b c bad.1;
         },
       )
@@ -108,12 +107,12 @@ module _ (s old : List ℕ) where
   reported_so e = let good = good_so e in (rw good, rw good)
 
   good_reported :
-      checked s ≡ Good → room s ≤ length old →
-      (reported s (length old) ≡ Lines (length (lines_of s))) × (reported_into s old ≡ written old 0 (lines_of s))
+      checked s ≡ Ok tt → room s ≤ length old →
+      (reported s (length old) ≡ Ok (length (lines_of s))) × (reported_into s old ≡ written old 0 (lines_of s))
   unfolding reported reported_into
   good_reported good h = let wide = le-leb (room s) (length old) h in (rw (wide, good), rw (wide, good))
 
-  good_asked : (kind a b c : ℕ) → checked s ≡ Good → asked s kind a b c ≡ Told (step (last_of s) kind a b c).answer
+  good_asked : (kind a b c : ℕ) → checked s ≡ Ok tt → asked s kind a b c ≡ Ok (step (last_of s) kind a b c).answer
   unfolding asked
   good_asked kind a b c good = rw good
 
@@ -136,19 +135,19 @@ module _ (s old : List ℕ) where
   unfolding reported
   never_malformed = by_cases (leb (room s) (length old)) (λ e. rw e) (λ e. rw e)
 
-  ran_offset : (v : Verdict) (x : ℕ) → ran_as s (length old) v ≡ Malformed x → v ≡ Bad x
-  ran_offset Good x e = no_false (sym never_malformed ∙ ap is_malformed e)
-  ran_offset (Bad y) x e = ap Bad (let same : Malformed y ≡ Malformed x = e in cc)
+  ran_offset : (v : Result ⊤ Malformed) (x : ℕ) → ran_as s (length old) v ≡ Err (Unrun (fault x)) → v ≡ Err (fault x)
+  ran_offset (Ok u) x e = no_false (sym never_malformed ∙ ap is_malformed e)
+  ran_offset (Err m) x e = let same : Err (Unrun m) ≡ Err (Unrun (fault x)) = e in cc
 
-  asked_offset : (kind a b c : ℕ) (v : Verdict) (x : ℕ) → asked_as s kind a b c v ≡ Unasked x → v ≡ Bad x
-  asked_offset kind a b c Good x e = let z : ◌≡◌ {A = ℕ} 0 1 = cc in absurd (omega arith)
-  asked_offset kind a b c (Bad y) x e = ap Bad (let same : Unasked y ≡ Unasked x = e in cc)
+  asked_offset : (kind a b c : ℕ) (v : Result ⊤ Malformed) (x : ℕ) → asked_as s kind a b c v ≡ Err (fault x) → v ≡ Err (fault x)
+  asked_offset kind a b c (Ok u) x e = let z : ◌≡◌ {A = ℕ} 0 1 = cc in absurd (omega arith)
+  asked_offset kind a b c (Err m) x e = cc
 
   told_so :
-      (kind a b c : ℕ) (v : Verdict) (r : Refusal) → asked_as s kind a b c v ≡ Told (Refused r) →
-      (v ≡ Good) × ((step (last_of s) kind a b c).answer ≡ Refused r)
-  told_so kind a b c Good r e = (refl, cc)
-  told_so kind a b c (Bad x) r e = let z : ◌≡◌ {A = ℕ} 0 1 = cc in absurd (omega arith)
+      (kind a b c : ℕ) (v : Result ⊤ Malformed) (r : Refusal) → asked_as s kind a b c v ≡ Ok (Err r) →
+      (v ≡ Ok tt) × ((step (last_of s) kind a b c).answer ≡ Err r)
+  told_so kind a b c (Ok u) r e = (refl, cc)
+  told_so kind a b c (Err m) r e = let z : ◌≡◌ {A = ℕ} 0 1 = cc in absurd (omega arith)
 
   pub file_judged : FileJudged s old
   unfolding ran asked

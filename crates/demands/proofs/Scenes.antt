@@ -8,6 +8,7 @@ use lib.Dec.{eqb, leb}
 use lib.ListN.{drop, get_or, length, set}
 use native.Mathlib.Omega.{arith}
 use borrow.Author.Tests.{ne_eqb}
+use Rattle.std.specs.declared.result.Result.TheVariants.{Ok}
 use Rattle.demands.specs.Calls.{Call, perform}
 use Rattle.demands.specs.Fit.{Fit}
 use Rattle.demands.specs.Scenes.{FreshArrays, NoWrite, Paired, TwoArrays, array_after, colour_at, colours_after, colours_of, configured, level_at, levels_after, levels_of}
@@ -20,12 +21,13 @@ use Rattle.colour.specs.Activation.{recall}
 use Rattle.colour.specs.Report.{report_from}
 use Rattle.colour.specs.Staging.{take_staged_colour}
 use Rattle.gear.specs.Command.{command_of}
-use Rattle.gear.specs.declared.answer.Answer.TheVariants.{Value}
+use Rattle.gear.specs.declared.answer.Reply.TheVariants.{Value}
 use Rattle.gear.specs.declared.answer.Outcome.{Outcome}
 use Rattle.gear.specs.declared.command.ConfigCommand.{ConfigCommand}
 use Rattle.gear.specs.declared.command.ConfigCommand.TheVariants.{SetMaxLevel, SetMinLevel, SetSystemFailureLevel, SetPowerOnLevel, SetFadeTime, SetFadeRate, SetExtendedFadeTime, SetScene, RemoveScene, AddToGroup, RemoveFromGroup}
+use Rattle.std.specs.Prelude.{Option, Some, None}
 use Rattle.gear.specs.declared.command.StandardCommand.{StandardCommand}
-use Rattle.gear.specs.declared.command.StandardCommand.TheVariants.{Arc, GoToScene, Reset, IdentifyDevice, Config, EnableWriteMemory, Unknown}
+use Rattle.gear.specs.declared.command.StandardCommand.TheVariants.{Arc, GoToScene, Reset, IdentifyDevice, Config, EnableWriteMemory}
 use Rattle.gear.specs.declared.record.Gear.{Gear}
 use Rattle.gear.specs.declared.settings.LevelSetting.{LevelSetting}
 use Rattle.gear.specs.Profile.{accepted, is_type}
@@ -83,22 +85,22 @@ module _ {A : Type 0} (field : LevelSetting → A) (at : List A → ℕ → A) (
   config_array (AddToGroup n) = refl
   config_array (RemoveFromGroup n) = refl
 
-  write_array : (k : StandardCommand) → map field (write g k d).gear.scenes ≡ array_after at put (field unset) k (map field g.scenes)
+  write_array : (k : Option StandardCommand) → map field (write g k d).gear.scenes ≡ array_after at put (field unset) k (map field g.scenes)
   unfolding write array_after arc_write recall_scene identify enable_write reset_gear
-  write_array (Config k) = config_array k
-  write_array (Arc a) = refl
-  write_array (GoToScene s) = refl
-  write_array Reset = refl
-  write_array IdentifyDevice = refl
-  write_array EnableWriteMemory = refl
-  write_array Unknown = refl
+  write_array (Some (Config k)) = config_array k
+  write_array (Some (Arc a)) = refl
+  write_array (Some (GoToScene s)) = refl
+  write_array (Some Reset) = refl
+  write_array (Some IdentifyDevice) = refl
+  write_array (Some EnableWriteMemory) = refl
+  write_array None = refl
 
-write_levels : (g : Gear) (k : StandardCommand) (d : ℕ) → levels_of (write g k d).gear.scenes ≡ levels_after k d (levels_of g.scenes)
+write_levels : (g : Gear) (k : Option StandardCommand) (d : ℕ) → levels_of (write g k d).gear.scenes ≡ levels_after k d (levels_of g.scenes)
 unfolding store_level_setting
 write_levels g k d = write_array (λ (x : LevelSetting). x.level) level_at level_at_lem g d (λ kept. d) (λ x. refl) k
 
 write_colours :
-    (g : Gear) (k : StandardCommand) (d : ℕ) → colours_of (write g k d).gear.scenes ≡ colours_after k g.colour (colours_of g.scenes)
+    (g : Gear) (k : Option StandardCommand) (d : ℕ) → colours_of (write g k d).gear.scenes ≡ colours_after k g.colour (colours_of g.scenes)
 unfolding store_level_setting
 write_colours g k d =
     write_array (λ (x : LevelSetting). x.colour) colour_at colour_at_lem g d (λ kept. (take_staged_colour g.colour kept).setting) (λ x. refl) k
@@ -133,9 +135,9 @@ module _ (g : Gear) (b : ℕ) (e : b / 16 ≡ 11) where
   unfolding query is_query
   of_scene = rw (beyond 153 (λ d. omega arith), beyond 167 (λ d. omega arith), e)
 
-  tells : reply (seen g b) b ≡ Value (level_at (levels_of g.scenes) (b % 16))
+  tells : reply (seen g b) b ≡ Ok (Value (level_at (levels_of g.scenes) (b % 16)))
   unfolding reply
-  tells = rw e (ap Value (level_at_lem g.scenes (b % 16)))
+  tells = rw e (ap (λ n. Ok (Value n)) (level_at_lem g.scenes (b % 16)))
 
   shows : reported g b ≡ pick (is_type g.unit 8) (report_from g.colour (colour_at (colours_of g.scenes) (b % 16))) g.colour
   unfolding reported report_for
@@ -154,11 +156,11 @@ two_arrays =
       left = leaves;
       level_recalled = λ g byte d s f e.
           ap (λ (o : Outcome). o.gear.levels) (served g (write g (command_of byte) d) f) ∙
-          ap (λ (k : StandardCommand). (write g k d).gear.levels) e ∙
+          ap (λ (k : Option StandardCommand). (write g k d).gear.levels) e ∙
           ap (recalled_levels g.levels) (level_at_lem g.scenes s);
       colour_recalled = λ g byte d s f e.
           ap (λ (o : Outcome). o.gear.colour) (served g (write g (command_of byte) d) f) ∙
-          ap (λ (k : StandardCommand). (write g k d).gear.colour) e ∙
+          ap (λ (k : Option StandardCommand). (write g k d).gear.colour) e ∙
           ap (recall g.colour) (colour_at_lem g.scenes s);
       level_told = λ g byte f e. ap (λ (o : Outcome). o.answer) (served g (query g byte) f ∙ of_scene g byte e) ∙ tells g byte e;
       colour_reported = λ g byte f e. ap (λ (o : Outcome). o.gear.colour) (served g (query g byte) f ∙ of_scene g byte e) ∙ shows g byte e;

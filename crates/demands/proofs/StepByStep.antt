@@ -13,7 +13,7 @@ use Rattle.demands.specs.Sessions.{Step, StepByStep, after_steps, bytes, call_in
 use Rattle.demands.specs.Steps.{Stepped}
 use Rattle.demands.proofs.ProfileAndFile.{bad_at, good_at}
 use Rattle.demands.proofs.Steps.{stepped}
-use Rattle.file.specs.declared.Verdict.TheVariants.{Good}
+use Rattle.std.specs.Prelude.{Ok}
 use Rattle.file.specs.File.{checked, profile_at, step_count, steps_of, well_formed}
 use Rattle.file.proofs.Lowest.{accepted_exactly}
 use Rattle.file.proofs.Shape.{steps_length}
@@ -118,7 +118,7 @@ bytes_length (x ∷ xs) = let e = bytes_length xs in omega arith
 
 -- ## A file
 
-good_so : (s : List ℕ) → well_formed s ≡ true → checked s ≡ Good
+good_so : (s : List ℕ) → well_formed s ≡ true → checked s ≡ Ok tt
 good_so s h = good_at (checked s) (accepted_exactly s ∙ h)
 
 rules_served :

@@ -1,6 +1,6 @@
 -- Request 2 of document 02: why a colour value is absent. The id table decides first: an id that no gear has is unknown, whatever this
 -- gear can do; of the others this gear may lack what the id needs. Values and records are what they were.
-use Rattle.std.specs.Prelude.{ℕ, ◌-◌, ◌%◌, ◌≡◌, Bool, true, false, List, [], ◌∷◌, eqb, ltb}
+use Rattle.std.specs.Prelude.{ℕ, ◌-◌, ◌%◌, ◌≡◌, Bool, true, false, List, [], ◌∷◌, eqb, ltb, Ok, Err}
 use Rattle.demands.specs.Calls.{Behaviour, Call}
 use Rattle.demands.specs.Calls.Call.{ColorValue}
 use Rattle.demands.specs.Fit.{Fit}
@@ -11,15 +11,14 @@ use Rattle.colour.specs.declared.limits.Limits.{Limits}
 use Rattle.colour.specs.declared.record.Capabilities.{Capabilities}
 use Rattle.colour.specs.declared.record.Colour.{Colour}
 use Rattle.colour.specs.declared.setting.ColourSetting.{ColourSetting}
-use Rattle.colour.specs.Kinds.{kind_of}
+use Rattle.colour.specs.Kinds.{by_kind, kind_of}
 use Rattle.colour.specs.Tint.{face}
 use Rattle.colour.specs.Value.{channel_level, own_or}
 use Rattle.dali_gear.proofs.dali_gear_ask
 use Rattle.dali_gear.specs.Code.{answer_code, answer_detail}
 use Rattle.file.specs.File.{well_formed}
-use Rattle.gear.specs.Answer.{unexplained}
-use Rattle.gear.specs.declared.answer.Answer.{Answer}
-use Rattle.gear.specs.declared.answer.Answer.TheVariants.{Done, Value, Nothing, Incapable, Refused}
+use Rattle.gear.specs.Answer.{Answer, unexplained}
+use Rattle.gear.specs.declared.answer.Reply.TheVariants.{Done, Value, Nothing, Incapable}
 use Rattle.gear.specs.declared.record.Gear.{Gear}
 use Rattle.gear.specs.Serve.{tell}
 use Rattle.numbers.specs.Numbers.{pick}
@@ -52,35 +51,35 @@ by_list id common xy tc channels none =
 -- an id of a list has its value, or this gear lacks what the list needs; an id of no list is unknown
 unfoldable pub explained : Capabilities → ℕ → Answer → Answer
 explained can id value =
-    by_list id value (pick can.xy value (Incapable Xy)) (pick can.tc value (Incapable Tc))
-    (pick (ltb 0 can.channels) value (Incapable Channels)) Nothing
+    by_list id value (pick can.xy value (Ok (Incapable Xy))) (pick can.tc value (Ok (Incapable Tc)))
+    (pick (ltb 0 can.channels) value (Ok (Incapable Channels))) (Ok Nothing)
 
 -- the id is of a list, and this gear has what the list needs
 unfoldable pub capable : Capabilities → ℕ → Bool
 capable can id = by_list id true can.xy can.tc (ltb 0 can.channels) false
 
 abbrev pub is_value : Answer → Bool
-is_value Done = false
-is_value (Value n) = true
-is_value Nothing = false
-is_value (Incapable need) = false
-is_value (Refused r) = false
+is_value (Ok Done) = false
+is_value (Ok (Value n)) = true
+is_value (Ok Nothing) = false
+is_value (Ok (Incapable need)) = false
+is_value (Err r) = false
 
 -- ## The answer as it was, by 000: a value or none
 
 abbrev pub if_there : Bool → ℕ → Answer
-if_there can v = pick can (Value v) Nothing
+if_there can v = pick can (Ok (Value v)) (Ok Nothing)
 
 unfoldable pub shown_before : Capabilities → ColourSetting → ℕ → Answer
 shown_before can s place =
     pick (eqb place 0) (if_there can.xy (own_or s.kind 0x10 s.x 0xFFFF))
     (pick (eqb place 1) (if_there can.xy (own_or s.kind 0x10 s.y 0xFFFF))
     (pick (eqb place 2) (if_there can.tc (own_or s.kind 0x20 s.tc 0xFFFF))
-    (pick (ltb place 9) Nothing
+    (pick (ltb place 9) (Ok Nothing)
     (pick (ltb place 15)
     (if_there (ltb 0 can.channels) (own_or s.kind 0x80 (channel_level s.levels (place - 9) can.channels) 0xFF))
     (pick (eqb place 15) (if_there (ltb 0 can.channels) (own_or s.kind 0x80 s.control 0xFF))
-    (pick (eqb place 16) (Value s.kind) Nothing))))))
+    (pick (eqb place 16) (Ok (Value s.kind)) (Ok Nothing)))))))
 
 unfoldable pub limit_before : Capabilities → Limits → ℕ → Answer
 limit_before can l place =
@@ -90,12 +89,11 @@ limit_before can l place =
 
 unfoldable pub value_before : Colour → ℕ → Answer
 value_before c id =
-    pick (eqb (kind_of id) 1) (shown_before c.can (face c.active) (id % 32))
-    (pick (eqb (kind_of id) 2) (Value 0xFFFF)
-    (pick (eqb (kind_of id) 3) (Value 0)
-    (pick (eqb (kind_of id) 4) (limit_before c.can c.limits (id % 32))
-    (pick (eqb (kind_of id) 5) (shown_before c.can (face c.pending) (id % 32))
-    (pick (eqb (kind_of id) 6) (shown_before c.can c.report (id % 32)) Nothing)))))
+    by_kind (kind_of id) (shown_before c.can (face c.active) (id % 32)) (Ok (Value 0xFFFF)) (Ok (Value 0))
+    (limit_before c.can c.limits (id % 32))
+    (shown_before c.can (face c.pending) (id % 32))
+    (shown_before c.can c.report (id % 32))
+    (Ok Nothing)
 
 -- the old value where this gear has it, else the reason; refusal 2 for a record that is not fit
 abbrev pub explained_by : Gear → ℕ → Answer

@@ -9,10 +9,10 @@ use Rattle.calls.specs.Power.{power_cycle_call}
 use Rattle.calls.specs.Reads.{actual_level_call, failure_bits_call, lamp_failure_call, lamp_on_call, status_call, thermal_call, type_call}
 use Rattle.calls.specs.Setters.{set_enabled_call, set_faults_call, set_lamp_failure_call, set_lamp_starting_call}
 use Rattle.colour.specs.declared.setting.ColourSetting.{ColourSetting}
-use Rattle.gear.specs.declared.answer.Answer.{Answer}
 use Rattle.gear.specs.declared.answer.Outcome.{Outcome}
 use Rattle.gear.specs.declared.condition.Faults.{Faults}
 use Rattle.gear.specs.declared.record.Gear.{Gear}
+use Rattle.gear.specs.Answer.{Answer}
 use Rattle.gear.specs.Write.{apply_standard_write, direct_arc_power}
 use Rattle.query.specs.Reply.{gear_query_reply}
 

@@ -1,12 +1,10 @@
 -- When a profile is accepted and when a record is fit: document 01, 'Profile and fit record', clause by clause.
 -- proofs/Fit.antt shows that the tests of the code say the same of every profile and of every record.
 -- `A → ⊥` reads 'not A', and `(n : ℕ) → A` reads 'A, for each number n'.
-use Rattle.std.specs.Prelude.{ℕ, ◌≤◌, ◌<◌, ◌≡◌, take}
+use Rattle.std.specs.Prelude.{ℕ, ◌≤◌, ◌<◌, ◌≡◌, take, Some}
 use mathlib.Core.List.{Memᴰ as Among}
 use Rattle.colour.specs.declared.tint.ColorMode.TheVariants.{Cct}
-use Rattle.gear.specs.declared.marks.Walk.TheVariants.{At}
 use Rattle.gear.specs.declared.profile.Profile.{Profile}
-use Rattle.gear.specs.declared.profile.Short.TheVariants.{Address}
 use Rattle.gear.specs.declared.profile.Unit.{Unit}
 use Rattle.gear.specs.declared.record.Gear.{Gear}
 
@@ -19,7 +17,7 @@ pub record AcceptedUpTo (most : ℕ) (p : Profile) : Type 0 where
   -- 'channels 0 to 6'
   pub channels : p.can.channels ≤ 6
   -- 'short address 0 to 63 or none'
-  pub short : (address : ℕ) → p.unit.short ≡ Address address → address ≤ 63
+  pub short : (address : ℕ) → p.unit.short ≡ Some address → address ≤ 63
   -- 'random address at most 16,777,215'
   pub random : p.unit.random ≤ 16777215
   -- 'physical minimum 1 to 254'
@@ -75,4 +73,4 @@ pub record Fit (g : Gear) : Type 0 where
   -- 'an active Tc colour lies within the effective limits'
   pub active : g.colour.active.mode ≡ Cct → (coolest ≤ g.colour.active.tc) × (g.colour.active.tc ≤ warmest)
   -- 'the type walk is off or at most 16'
-  pub walk : (place : ℕ) → g.marks.walk ≡ At place → place ≤ 16
+  pub walk : (place : ℕ) → g.marks.walk ≡ Some place → place ≤ 16

@@ -1,19 +1,18 @@
 -- What a host is told of a malformed file, over the own promises of the five functions of the library that it links.
-use Rattle.std.specs.Prelude.{ℕ, ◌≤◌, ◌<◌, ◌≡◌, false, List, length}
+use Rattle.std.specs.Prelude.{ℕ, ◌≤◌, ◌<◌, ◌≡◌, false, List, length, Err}
 use Rattle.demands.specs.Runs.{Always, AtFault}
 use Rattle.dali_gear.proofs.dali_gear_ask
 use Rattle.dali_gear.proofs.dali_gear_check
 use Rattle.dali_gear.proofs.dali_gear_report
 use Rattle.dali_gear.proofs.dali_gear_room
 use Rattle.dali_gear.proofs.dali_gear_run
-use Rattle.file.specs.declared.Verdict.TheVariants.{Bad}
-use Rattle.file.specs.File.{byte, checked, well_formed}
+use Rattle.file.specs.File.{byte, fault, checked, well_formed}
 use Rattle.runner.specs.Line.{bad_text, written}
 use Rattle.runner.specs.Run.{room}
 
 -- code 5 is given exactly where the file is malformed, and then the detail is the offset of its lowest fault
 pub record Five (s : List ℕ) (code detail : ℕ) : Type 0 where
-  pub given : well_formed s ≡ false → (code ≡ 5) × (checked s ≡ Bad detail)
+  pub given : well_formed s ≡ false → (code ≡ 5) × (checked s ≡ Err (fault detail))
   pub only : code ≡ 5 → well_formed s ≡ false
 
 -- a report of a file whose lowest fault is at the offset is done, and no refusal: its line stands at the start of the buffer

@@ -1,13 +1,12 @@
 -- The impostors of document 01 ('What each call owes') that take a record, each written down as a behaviour of the calls; and that
 -- each fails the demand which document 01 names for it. The fifth is a runner: specs/Sessions.antt.
-use Rattle.std.specs.Prelude.{ℕ, ◌≡◌, Bool, true, false}
+use Rattle.std.specs.Prelude.{ℕ, ◌≡◌, Bool, true, false, Ok, Err}
 use Rattle.demands.specs.Calls.{Behaviour, Call, perform}
 use Rattle.demands.specs.Calls.Call.{StandardWrite, Query}
 use Rattle.demands.specs.Refusals.{RefusesExactly}
 use Rattle.demands.specs.Table.{RowsOf}
-use Rattle.gear.specs.Answer.{refused}
-use Rattle.gear.specs.declared.answer.Answer.{Answer}
-use Rattle.gear.specs.declared.answer.Answer.TheVariants.{Done, Value, Nothing, Incapable, Refused}
+use Rattle.gear.specs.Answer.{Answer, refused}
+use Rattle.gear.specs.declared.answer.Reply.TheVariants.{Done, Value, Nothing, Incapable}
 use Rattle.gear.specs.declared.answer.Refusal.{Refusal}
 use Rattle.gear.specs.declared.record.Gear.{Gear}
 use Rattle.numbers.specs.Numbers.{pick}
@@ -18,11 +17,11 @@ refuses_every why c g = refused g (why c g)
 
 -- it answers 0 always: what is done or refused is so as by the rules, and what is asked for is 0; whatever records it leaves
 unfoldable pub zeroed : Answer → Answer
-zeroed Done = Done
-zeroed (Value n) = Value 0
-zeroed Nothing = Value 0
-zeroed (Incapable need) = Value 0
-zeroed (Refused r) = Refused r
+zeroed (Ok Done) = Ok Done
+zeroed (Ok (Value n)) = Ok (Value 0)
+zeroed (Ok Nothing) = Ok (Value 0)
+zeroed (Ok (Incapable need)) = Ok (Value 0)
+zeroed (Err r) = Err r
 
 abbrev pub answers_zero : (Call → Gear → Gear) → Behaviour
 answers_zero leaves c g = record { answer = zeroed (perform c g).answer; gear = leaves c g }

@@ -3,9 +3,9 @@ use Rattle.std.specs.Prelude.{ℕ, ◌≡◌, Bool, List, [], ◌∷◌}
 use Rattle.demands.specs.Calls.{Behaviour, Call}
 use Rattle.colour.specs.Activation.{automatic}
 use Rattle.colour.specs.declared.tint.ColorMode.TheVariants.{Cct}
-use Rattle.gear.specs.declared.answer.Answer.{Answer}
 use Rattle.gear.specs.declared.profile.Profile.{Profile}
 use Rattle.gear.specs.declared.record.Gear.{Gear}
+use Rattle.gear.specs.Answer.{Answer}
 use Rattle.gear.specs.Record.{new_gear}
 use Rattle.gear.specs.Write.{scene}
 

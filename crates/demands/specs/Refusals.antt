@@ -1,13 +1,12 @@
 -- Document 01's table 'Numbers given back on refusal', for the calls that take a record.
-use Rattle.std.specs.Prelude.{ℕ, Bool, true, false, List, [], ◌∷◌, ◌≡◌, leb, ltb}
+use Rattle.std.specs.Prelude.{ℕ, Bool, true, false, List, [], ◌∷◌, ◌≡◌, leb, ltb, Ok, Err}
 use Rattle.std.proofs.Math.Option.{Option, none, some}
 use Rattle.demands.specs.Calls.{Behaviour, Call}
 use Rattle.demands.specs.Calls.Call.{StandardWrite, ArcPower, Query, Matches, TcStep, XyStep, StoreTcLimit, Stage, Activate, CopyReport, SetFeatures, ColorValue, ColourStatus, Features, ControlByte, FeatureByte, Automatic, ReadMemory, WriteMemory, AdvancesDtr0, ImplementsBank, SetLockByte, SetLocation, SetGearUnit, SetLastOffset, ClearNumber, Hear, HoldsFrame, HearElsewhere, PowerCycle, StatusByte, LampOn, FailureBits, ThermalShutDown, LampFailure, ActualLevel, IsType, SetEnabled, SetLampFailure, SetLampStarting, SetFaults}
 use Rattle.calls.specs.declared.address.Address.{Address}
 use Rattle.calls.specs.declared.address.Address.TheVariants.{Short, Group, Broadcast, Unaddressed}
-use Rattle.gear.specs.Answer.{refused}
-use Rattle.gear.specs.declared.answer.Answer.{Answer}
-use Rattle.gear.specs.declared.answer.Answer.TheVariants.{Done, Value, Nothing, Incapable, Refused}
+use Rattle.gear.specs.Answer.{Answer, refused}
+use Rattle.gear.specs.declared.answer.Reply.TheVariants.{Done, Value, Nothing, Incapable}
 use Rattle.gear.specs.declared.answer.Outcome.{Outcome}
 use Rattle.gear.specs.declared.answer.Refusal.{Refusal}
 use Rattle.gear.specs.declared.answer.Refusal.TheVariants.{Unfit, Byte, Group as GroupAbove}
@@ -88,11 +87,11 @@ refusal_of c g = pick (fitb g) (table_of c) (some Unfit)
 -- ## What the table says of an outcome
 
 abbrev pub is_refusal : Answer → Bool
-is_refusal Done = false
-is_refusal (Value n) = false
-is_refusal Nothing = false
-is_refusal (Incapable need) = false
-is_refusal (Refused r) = true
+is_refusal (Ok Done) = false
+is_refusal (Ok (Value n)) = false
+is_refusal (Ok Nothing) = false
+is_refusal (Ok (Incapable need)) = false
+is_refusal (Err r) = true
 
 -- the named refusal with the record as it was, and no other answer; or where none is named, an answer that is no refusal at all
 abbrev pub Judged : Option Refusal → Gear → Outcome → Type 0

@@ -1,6 +1,6 @@
 -- Request 14 of document 02: level and colour of a scene are one entry. The Rust has two arrays, which are the levels and the colours of
 -- the entries: what 000 does to the two, and what it reads of them, the calls do to these and read of these.
-use Rattle.std.specs.Prelude.{ℕ, ◌/◌, ◌%◌, ◌≡◌, List, map, leb, get_or, replicate}
+use Rattle.std.specs.Prelude.{ℕ, ◌/◌, ◌%◌, ◌≡◌, List, map, leb, get_or, replicate, Option, Some, None, Ok}
 use Rattle.demands.specs.Calls.{Behaviour, Call}
 use Rattle.demands.specs.Calls.Call.{Query, StandardWrite}
 use Rattle.demands.specs.Fit.{Fit}
@@ -11,11 +11,11 @@ use Rattle.colour.specs.Report.{report_from}
 use Rattle.colour.specs.Setting.{mask}
 use Rattle.colour.specs.Staging.{take_staged_colour}
 use Rattle.gear.specs.Command.{command_of}
-use Rattle.gear.specs.declared.answer.Answer.TheVariants.{Value}
+use Rattle.gear.specs.declared.answer.Reply.TheVariants.{Value}
 use Rattle.gear.specs.declared.command.ConfigCommand.{ConfigCommand}
 use Rattle.gear.specs.declared.command.ConfigCommand.TheVariants.{SetMaxLevel, SetMinLevel, SetSystemFailureLevel, SetPowerOnLevel, SetFadeTime, SetFadeRate, SetExtendedFadeTime, SetScene, RemoveScene, AddToGroup, RemoveFromGroup}
 use Rattle.gear.specs.declared.command.StandardCommand.{StandardCommand}
-use Rattle.gear.specs.declared.command.StandardCommand.TheVariants.{Arc, GoToScene, Reset, IdentifyDevice, Config, EnableWriteMemory, Unknown}
+use Rattle.gear.specs.declared.command.StandardCommand.TheVariants.{Arc, GoToScene, Reset, IdentifyDevice, Config, EnableWriteMemory}
 use Rattle.gear.specs.declared.profile.Profile.{Profile}
 use Rattle.gear.specs.declared.record.Gear.{Gear}
 use Rattle.gear.specs.declared.settings.LevelSetting.{LevelSetting}
@@ -57,21 +57,21 @@ configured at put empty (AddToGroup n) xs = xs
 configured at put empty (RemoveFromGroup n) xs = xs
 
 -- and any write: a reset removes every scene, and no other touches one
-unfoldable pub array_after : {A : Type 0} → (List A → ℕ → A) → (A → A) → A → StandardCommand → List A → List A
-array_after at put empty (Config k) xs = configured at put empty k xs
-array_after at put empty Reset xs = replicate 16 empty
-array_after at put empty (Arc a) xs = xs
-array_after at put empty (GoToScene s) xs = xs
-array_after at put empty IdentifyDevice xs = xs
-array_after at put empty EnableWriteMemory xs = xs
-array_after at put empty Unknown xs = xs
+unfoldable pub array_after : {A : Type 0} → (List A → ℕ → A) → (A → A) → A → Option StandardCommand → List A → List A
+array_after at put empty (Some (Config k)) xs = configured at put empty k xs
+array_after at put empty (Some Reset) xs = replicate 16 empty
+array_after at put empty (Some (Arc a)) xs = xs
+array_after at put empty (Some (GoToScene s)) xs = xs
+array_after at put empty (Some IdentifyDevice) xs = xs
+array_after at put empty (Some EnableWriteMemory) xs = xs
+array_after at put empty None xs = xs
 
 -- SetScene stores the level that it is given
-abbrev pub levels_after : StandardCommand → ℕ → List ℕ → List ℕ
+abbrev pub levels_after : Option StandardCommand → ℕ → List ℕ → List ℕ
 levels_after k d = array_after level_at (λ kept. d) 255 k
 
 -- and the staged colour or, with nothing staged, the colour that was there
-abbrev pub colours_after : StandardCommand → Colour → List ColourSetting → List ColourSetting
+abbrev pub colours_after : Option StandardCommand → Colour → List ColourSetting → List ColourSetting
 colours_after k c = array_after colour_at (λ kept. (take_staged_colour c kept).setting) mask k
 
 -- ## Of calls that behave in some way
@@ -92,14 +92,14 @@ pub record TwoArrays (f : Behaviour) : Type 0 where
   pub left : (c : Call) (g : Gear) → NoWrite c → (f c g).gear.scenes ≡ g.scenes
   -- GoToScene takes the scene's level and its colour
   pub level_recalled :
-      (g : Gear) (byte dtr0 s : ℕ) → Fit g → command_of byte ≡ GoToScene s →
+      (g : Gear) (byte dtr0 s : ℕ) → Fit g → command_of byte ≡ Some (GoToScene s) →
       (f (StandardWrite byte dtr0) g).gear.levels ≡ recalled_levels g.levels (level_at (levels_of g.scenes) s)
   pub colour_recalled :
-      (g : Gear) (byte dtr0 s : ℕ) → Fit g → command_of byte ≡ GoToScene s →
+      (g : Gear) (byte dtr0 s : ℕ) → Fit g → command_of byte ≡ Some (GoToScene s) →
       (f (StandardWrite byte dtr0) g).gear.colour ≡ recall g.colour (colour_at (colours_of g.scenes) s)
   -- queries 176 to 191 tell the level, and a gear of type 8 reports the colour
   pub level_told :
-      (g : Gear) (byte : ℕ) → Fit g → byte / 16 ≡ 11 → (f (Query byte) g).answer ≡ Value (level_at (levels_of g.scenes) (byte % 16))
+      (g : Gear) (byte : ℕ) → Fit g → byte / 16 ≡ 11 → (f (Query byte) g).answer ≡ Ok (Value (level_at (levels_of g.scenes) (byte % 16)))
   pub colour_reported :
       (g : Gear) (byte : ℕ) → Fit g → byte / 16 ≡ 11 →
       (f (Query byte) g).gear.colour ≡

@@ -1,5 +1,5 @@
 -- A session step by step, from its first step on (document 01, 'Session file and runner'): what any runner of a file is to print.
-use Rattle.std.specs.Prelude.{ℕ, ◌+◌, ◌<◌, ◌≡◌, true, List, [], ◌∷◌, ◌++◌}
+use Rattle.std.specs.Prelude.{ℕ, ◌+◌, ◌<◌, ◌≡◌, true, List, [], ◌∷◌, ◌++◌, Result, Ok, Err, ⊤}
 use Rattle.std.proofs.Math.Option.{Option, none, some}
 use Rattle.demands.specs.Calls.{Call, perform}
 use Rattle.demands.specs.Example.{file, lines}
@@ -9,9 +9,8 @@ use Rattle.gear.specs.declared.answer.Outcome.{Outcome}
 use Rattle.gear.specs.declared.answer.Refusal.TheVariants.{Unfit, Byte}
 use Rattle.gear.specs.declared.record.Gear.{Gear}
 use Rattle.gear.specs.Record.{fitb, fresh_gear, new_gear}
-use Rattle.file.specs.declared.Verdict.{Verdict}
-use Rattle.file.specs.declared.Verdict.TheVariants.{Good, Bad}
-use Rattle.file.specs.File.{byte, checked, steps_of, well_formed}
+use Rattle.file.specs.declared.Malformed.{Malformed}
+use Rattle.file.specs.File.{byte, fault, checked, steps_of, well_formed}
 use Rattle.file.specs.Profile.{profile_in}
 use Rattle.numbers.specs.Numbers.{pick}
 use Rattle.runner.specs.Line.{bad_text, end_text, line_text}
@@ -73,7 +72,7 @@ pub record StepByStep (runner : List ℕ → List ℕ) : Type 0 where
   pub served :
       (s : List ℕ) (steps : List Step) → well_formed s ≡ true → steps_of s ≡ bytes steps →
       runner s ≡ lines_from 1 (start_in s) steps
-  pub refused : (s : List ℕ) (offset : ℕ) → checked s ≡ Bad offset → runner s ≡ bad_text offset
+  pub refused : (s : List ℕ) (offset : ℕ) → checked s ≡ Err (fault offset) → runner s ≡ bad_text offset
 
 -- ## The impostor: it performs step 1 and only prints the rest
 
@@ -96,9 +95,9 @@ first_performed g (step ∷ steps) =
     line_text 1 (perform_step step g).answer ++
     (only_printed 2 (perform_step step g).gear steps ++ end_line (perform_step step g).gear)
 
-abbrev pub only_step_one_as : List ℕ → Verdict → List ℕ
-only_step_one_as s Good = first_performed (start_in s) (steps_in (steps_of s))
-only_step_one_as s (Bad offset) = bad_text offset
+abbrev pub only_step_one_as : List ℕ → Result ⊤ Malformed → List ℕ
+only_step_one_as s (Ok u) = first_performed (start_in s) (steps_in (steps_of s))
+only_step_one_as s (Err m) = bad_text m.offset
 
 unfoldable pub only_step_one : List ℕ → List ℕ
 only_step_one s = only_step_one_as s (checked s)

@@ -1,14 +1,13 @@
 -- Document 01's readings P1 to P13 as one table, under a single statement: `Readings`.
-use Rattle.std.specs.Prelude.{ℕ, ◌+◌, Bool, true, false, List, [], ◌∷◌, eqb, replicate}
+use Rattle.std.specs.Prelude.{ℕ, ◌+◌, Bool, true, false, List, [], ◌∷◌, eqb, replicate, Ok, None}
 use Rattle.demands.specs.Calls.{Behaviour, Call}
 use Rattle.demands.specs.Calls.Call.{StandardWrite, ArcPower, Query, StoreTcLimit, Stage, Activate, SetFeatures, ColorValue, ColourStatus, ReadMemory, WriteMemory}
 use Rattle.demands.specs.Readings.{Reading, AllHold, number}
 use Rattle.demands.specs.Readings.Reading.{Shows, OrdersDiffer}
 use Rattle.demands.specs.Readings.Sight.{Level, LimitError, Min, Max, PhysicalMin, ActiveTc, StagedTc, SceneTc, Limits, PhysicalLimits, Activation}
-use Rattle.gear.specs.declared.answer.Answer.{Answer}
-use Rattle.gear.specs.declared.answer.Answer.TheVariants.{Done, Value, Nothing}
+use Rattle.gear.specs.declared.answer.Reply.TheVariants.{Done, Value, Nothing}
 use Rattle.gear.specs.declared.profile.Profile.{Profile}
-use Rattle.gear.specs.declared.profile.Short.TheVariants.{Missing}
+use Rattle.gear.specs.Answer.{Answer}
 use Rattle.numbers.specs.Numbers.{pick}
 use Rattle.step.specs.Step.{temperature}
 
@@ -20,7 +19,7 @@ gear types count tc =
     record {
       unit =
           record {
-            short = Missing;
+            short = None;
             random = 0;
             types = types;
             count = count;
@@ -70,12 +69,12 @@ stage_tc n = Stage (temperature n)
 -- what the ids of P7 show
 abbrev pub id_answers : List (Call × Answer)
 id_answers =
-    (ColorValue 63, Nothing) ∷
-    (ColorValue 64, Value 65535) ∷
-    (ColorValue 81, Value 65535) ∷
-    (ColorValue 82, Value 0) ∷
-    (ColorValue 83, Nothing) ∷
-    (ColorValue 127, Nothing) ∷
+    (ColorValue 63, Ok Nothing) ∷
+    (ColorValue 64, Ok (Value 65535)) ∷
+    (ColorValue 81, Ok (Value 65535)) ∷
+    (ColorValue 82, Ok (Value 0)) ∷
+    (ColorValue 83, Ok Nothing) ∷
+    (ColorValue 127, Ok Nothing) ∷
     []
 
 -- ## The table
@@ -85,42 +84,42 @@ id_answers =
 abbrev pub table : List Reading
 table =
     -- P1 fresh gear, StepUp: level 0, no limit error.
-    Shows 1 led [] [] ((step_up, Done) ∷ []) (Level 0 ∷ LimitError false ∷ []) ∷
+    Shows 1 led [] [] ((step_up, Ok Done) ∷ []) (Level 0 ∷ LimitError false ∷ []) ∷
     -- P2 at max 200, StepUp: 200, limit error.
     Shows 2 led (set_max_level 200 ∷ ArcPower 200 ∷ []) (Max 200 ∷ Level 200 ∷ LimitError false ∷ [])
-    ((step_up, Done) ∷ (Query 160, Value 200) ∷ (Query 148, Value 255) ∷ []) (Level 200 ∷ LimitError true ∷ []) ∷
+    ((step_up, Ok Done) ∷ (Query 160, Ok (Value 200)) ∷ (Query 148, Ok (Value 255)) ∷ []) (Level 200 ∷ LimitError true ∷ []) ∷
     -- P3 at min 10, StepDown: 10, cleared;
     Shows 3 led (set_min_level 10 ∷ ArcPower 5 ∷ []) (Min 10 ∷ Level 10 ∷ LimitError true ∷ [])
-    ((step_down, Done) ∷ []) (Level 10 ∷ LimitError false ∷ []) ∷
+    ((step_down, Ok Done) ∷ []) (Level 10 ∷ LimitError false ∷ []) ∷
     -- StepDownAndOff: 0.
-    Shows 3 led (set_min_level 10 ∷ ArcPower 5 ∷ []) (Min 10 ∷ Level 10 ∷ []) ((step_down_and_off, Done) ∷ []) (Level 0 ∷ []) ∷
+    Shows 3 led (set_min_level 10 ∷ ArcPower 5 ∷ []) (Min 10 ∷ Level 10 ∷ []) ((step_down_and_off, Ok Done) ∷ []) (Level 0 ∷ []) ∷
     -- P4 SetMaxLevel 255 with min 1: 254;
-    Shows 4 led (set_max_level 200 ∷ []) (Min 1 ∷ Max 200 ∷ []) ((set_max_level 255, Done) ∷ []) (Max 254 ∷ []) ∷
+    Shows 4 led (set_max_level 200 ∷ []) (Min 1 ∷ Max 200 ∷ []) ((set_max_level 255, Ok Done) ∷ []) (Max 254 ∷ []) ∷
     -- 0 with min 10: 10.
-    Shows 4 led (set_min_level 10 ∷ []) (Min 10 ∷ []) ((set_max_level 0, Done) ∷ []) (Max 10 ∷ []) ∷
+    Shows 4 led (set_min_level 10 ∷ []) (Min 10 ∷ []) ((set_max_level 0, Ok Done) ∷ []) (Max 10 ∷ []) ∷
     -- P5 physical 153..400, staged 100: 153, colour status 0x22;
     Shows 5 tunable (stage_tc 100 ∷ []) (PhysicalLimits 153 400 ∷ StagedTc 100 ∷ [])
-    ((Activate, Done) ∷ (ColourStatus, Value 0x22) ∷ []) (ActiveTc 153 ∷ []) ∷
+    ((Activate, Ok Done) ∷ (ColourStatus, Ok (Value 0x22)) ∷ []) (ActiveTc 153 ∷ []) ∷
     -- staged 153: 0x20.
     Shows 5 tunable (stage_tc 153 ∷ []) (PhysicalLimits 153 400 ∷ StagedTc 153 ∷ [])
-    ((Activate, Done) ∷ (ColourStatus, Value 0x20) ∷ []) (ActiveTc 153 ∷ []) ∷
+    ((Activate, Ok Done) ∷ (ColourStatus, Ok (Value 0x20)) ∷ []) (ActiveTc 153 ∷ []) ∷
     -- P6 same pair, active 200, selector 0 value 300: active 300;
     Shows 6 tunable (stage_tc 200 ∷ Activate ∷ []) (PhysicalLimits 153 400 ∷ ActiveTc 200 ∷ [])
-    ((StoreTcLimit 300 0, Done) ∷ []) (ActiveTc 300 ∷ []) ∷
+    ((StoreTcLimit 300 0, Ok Done) ∷ []) (ActiveTc 300 ∷ []) ∷
     -- then selector 1 value 250: both limits and active 250.
     Shows 6 tunable (stage_tc 200 ∷ Activate ∷ StoreTcLimit 300 0 ∷ []) (ActiveTc 300 ∷ [])
-    ((StoreTcLimit 250 1, Done) ∷ []) (Limits 250 250 ∷ ActiveTc 250 ∷ []) ∷
+    ((StoreTcLimit 250 1, Ok Done) ∷ []) (Limits 250 250 ∷ ActiveTc 250 ∷ []) ∷
     -- P7 ids 63 none, 64 and 81 65,535, 82 0, 83 and 127 none.
     Shows 7 tunable [] [] id_answers [] ∷
     Shows 7 led [] [] id_answers [] ∷
     -- P8 bank 0: offset 0 is 26, 1 none, 2 is 1, 27 none.
     Shows 8 led [] []
-    ((ReadMemory 0 0, Value 26) ∷ (ReadMemory 0 1, Nothing) ∷ (ReadMemory 0 2, Value 1) ∷ (ReadMemory 0 27, Nothing) ∷ []) [] ∷
+    ((ReadMemory 0 0, Ok (Value 26)) ∷ (ReadMemory 0 1, Ok Nothing) ∷ (ReadMemory 0 2, Ok (Value 1)) ∷ (ReadMemory 0 27, Ok Nothing) ∷ []) [] ∷
     -- P9 bank 1: write 0 at 2, then 3 not writable, 2 still is.
-    Shows 9 led [] [] ((WriteMemory 1 2 0, Value 0) ∷ (WriteMemory 1 3 7, Nothing) ∷ (WriteMemory 1 2 85, Value 85) ∷ []) [] ∷
+    Shows 9 led [] [] ((WriteMemory 1 2 0, Ok (Value 0)) ∷ (WriteMemory 1 3 7, Ok Nothing) ∷ (WriteMemory 1 2 85, Ok (Value 85)) ∷ []) [] ∷
     -- P10 types 6,8: 255, 6, 8, 254, 254.
     Shows 10 six_and_eight [] []
-    ((Query 153, Value 255) ∷ (Query 167, Value 6) ∷ (Query 167, Value 8) ∷ (Query 167, Value 254) ∷ (Query 167, Value 254) ∷ []) [] ∷
+    ((Query 153, Ok (Value 255)) ∷ (Query 167, Ok (Value 6)) ∷ (Query 167, Ok (Value 8)) ∷ (Query 167, Ok (Value 254)) ∷ (Query 167, Ok (Value 254)) ∷ []) [] ∷
     -- P11 staged 300, SetScene 0 and SetScene 1: orders differ.
     OrdersDiffer 11 tunable (stage_tc 300 ∷ []) (StagedTc 300 ∷ []) (set_scene 0 254) (set_scene 1 254) ∷
     -- P12 activation off, scene 0 has Tc, GoToScene 0 and SetScene 1: orders differ.

@@ -2,8 +2,8 @@ pub mod Blocks
 pub mod Places
 pub mod Querying
 pub mod Reporting
-pub mod Rows
 pub mod Scenes
 pub mod Serving
 pub mod Taking
 pub mod Telling
+pub mod Waiting

@@ -9,18 +9,17 @@ use lib.Seq.{get_or-take}
 use borrow.Author.Tests.{eqb-true, leb-false, leb-true, le-leb}
 use native.Mathlib.Nat.{zero-add}
 use native.Mathlib.Omega.{arith}
+use Rattle.std.specs.Prelude.{Option, None, Some}
 use Rattle.colour.specs.declared.record.Colour.{Colour}
 use Rattle.colour.specs.declared.tint.Tint.{Tint}
 use Rattle.colour.specs.Report.{report_from}
 use Rattle.engine.proofs.Places.{bytes_get}
 use Rattle.engine.specs.Reported.{shown_by, with_report}
-use Rattle.gear.specs.declared.answer.Answer.{Answer}
 use Rattle.gear.specs.declared.condition.Faults.{Faults}
 use Rattle.gear.specs.declared.condition.Lamp.{Lamp}
 use Rattle.gear.specs.declared.marks.Marks.{Marks}
-use Rattle.gear.specs.declared.marks.Walk.{Walk}
-use Rattle.gear.specs.declared.marks.Walk.TheVariants.{Off, At}
 use Rattle.gear.specs.declared.record.Gear.{Gear}
+use Rattle.gear.specs.Answer.{Answer}
 use Rattle.gear.specs.Marks.{walk_fit, with_walk}
 use Rattle.gear.specs.Parts.{with_light, with_marks}
 use Rattle.gear.specs.Profile.{fixed, floor, is_type, unit_fit}
@@ -81,10 +80,10 @@ module _ (g : Gear) (sound : Sound g) where
       (λ e. let one = eqb-true g.unit.count 1 e in rw (code 0 (omega arith)))
       (λ e. rw e)
 
-  next : (w : Walk) → next_type_answer (listed g).unit w ≡ next_type_answer g.unit w
+  next : (w : Option ℕ) → next_type_answer (listed g).unit w ≡ next_type_answer g.unit w
   unfolding next_type_answer answer_at
-  next Off = refl
-  next (At n) =
+  next None = refl
+  next (Some n) =
       by_cases (leb g.unit.count n) (λ e. rw e) (λ e. rw (code n (leb-false g.unit.count n e)))
 
   same_told : (b : ℕ) → told (seen (listed g) b) b ≡ told (seen g b) b
@@ -102,10 +101,10 @@ answers n b s r seen-so told_so =
 abbrev Steps : Marks → Marks → Type 0
 Steps m m' = (walk_fit m'.walk ≡ true) × (with_walk m m'.walk ≡ m')
 
-goes_on : (count : ℕ) (m : Marks) (w : Walk) → count ≤ 16 → walk_fit m.walk ≡ true → Steps m (stepped count m w)
+goes_on : (count : ℕ) (m : Marks) (w : Option ℕ) → count ≤ 16 → walk_fit m.walk ≡ true → Steps m (stepped count m w)
 unfolding stepped moved_on walk_fit
-goes_on count m Off most fit = (fit, refl)
-goes_on count m (At n) most fit =
+goes_on count m None most fit = (fit, refl)
+goes_on count m (Some n) most fit =
     by_cases (leb count n) (λ e. rw e (fit, refl))
     (λ e. let h = leb-false count n e in rw e (le-leb (n + 1) 16 (omega arith), refl))
 

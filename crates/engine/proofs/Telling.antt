@@ -1,11 +1,11 @@
--- A call that only answers may read the bytes first and test them after: of the image of a fit record it reads that record.
+-- A call that only answers reads the bytes: of the image of a fit record it reads that record.
 use Prim.Native.Nat.{ℕ}
 use mathlib.Core.Path.{◌≡◌}
 use mathlib.Core.Bool.{true}
 use mathlib.Core.List.{List}
 use Rattle.engine.specs.Served.{told}
-use Rattle.gear.specs.declared.answer.Answer.{Answer}
 use Rattle.gear.specs.declared.record.Gear.{Gear}
+use Rattle.gear.specs.Answer.{Answer}
 use Rattle.gear.specs.Record.{fitb}
 use Rattle.gear.specs.Serve.{tell}
 use Rattle.numbers.proofs.Logic.{both_right, by_cases}

@@ -5,15 +5,15 @@ ghost use Rattle.engine.specs.Served.{told};
 ghost use Rattle.gear.specs.Scene.{member_at};
 ghost use Rattle.slot.specs.Record.{flags_from, gear_of};
 
-use crate::serve::tell;
-use calls::address::{Address, is_group_beyond, is_short};
+use crate::serve::{Slot, tell};
+use calls::address::{Address, is_group_beyond};
 use gear::answer::{Answer, Refusal, flag as flag_answer};
-use query::status::is_missing;
 use slot::bytes::{byte, flag};
 use slot::parts::short_of;
 
 // There is no seventeenth group.
-fn is_member(slot: &[u8], group: u8) -> bool
+#[tactic(auto, using(crate::proofs::Places::member_at_lem), unfolding(gear::specs::Scene::member_at))]
+fn is_member(slot: &Slot, group: u8) -> bool
     ensures { result ≡ member_at (flags_from 16 32 slot.now) group }
 {
     if 16 <= group {
@@ -22,23 +22,24 @@ fn is_member(slot: &[u8], group: u8) -> bool
     flag(slot, 32 + group as usize)
 }
 
-fn is_addressed(slot: &[u8], address: Address) -> bool
+#[tactic(auto, unfolding(calls::specs::Address::addressed, calls::specs::Address::is_short, query::specs::Status::missing, slot::specs::Record::gear_of))]
+fn is_addressed(slot: &Slot, address: Address) -> bool
     ensures { result ≡ addressed (gear_of slot.now) address }
 {
     match address {
-        Address::Short(number) => is_short(short_of(byte(slot, 6)), number),
+        Address::Short(number) => short_of(byte(slot, 6)) == Some(number),
         Address::Group(group) => is_member(slot, group),
         Address::Broadcast => true,
-        Address::Unaddressed => is_missing(short_of(byte(slot, 6))),
+        Address::Unaddressed => short_of(byte(slot, 6)).is_none(),
     }
 }
 
 // A gear that is not enabled is addressed by nothing.
-fn judged(slot: &[u8], address: Address) -> Answer
+fn judged(slot: &Slot, address: Address) -> Answer
     ensures { result ≡ judged (gear_of slot.now) address }
 {
     if is_group_beyond(address) {
-        return Answer::Refused(Refusal::Group);
+        return Err(Refusal::Group);
     }
     if flag(slot, 62) {
         return flag_answer(is_addressed(slot, address));
@@ -49,5 +50,5 @@ fn judged(slot: &[u8], address: Address) -> Answer
 pub fn matches(slot: &[u8], address: Address) -> Answer
     ensures { result ≡ told (λ g. matches_call g address) slot.now }
 {
-    tell(slot, judged(slot, address))
+    tell(slot, |slot| judged(slot, address))
 }

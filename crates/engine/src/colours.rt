@@ -4,7 +4,7 @@ ghost use Rattle.calls.specs.Colours.{tc_step_call, xy_step_call, store_tc_limit
 ghost use Rattle.engine.specs.Served.{Served, told};
 
 use crate::activation::activate;
-use crate::serve::tell;
+use crate::serve::{serve, tell};
 use crate::staging::{copy_report, stage};
 use crate::steps::{step_tc, step_xy, store_limit};
 use colour::activation::automatic_activation as automatic;
@@ -13,140 +13,116 @@ use colour::value::{
     color_value as value_of, dt8_colour_status as status_of, dt8_features as features_of,
     rgbwaf_control_byte as control_of,
 };
-use gear::answer::{Answer, Refusal, flag, unexplained, value_answer};
-use slot::bytes::byte;
+use gear::answer::{Answer, Reply, flag, unexplained, value_answer};
 use slot::parts::colour_of;
-use slot::test::{SIZE, is_held};
 
 pub fn tc_step(slot: &mut [u8], warmer: bool) -> Answer
     ensures { Served (λ g. tc_step_call g warmer) slot.old slot.new result }
 {
-    if slot.len() != SIZE {
-        return Answer::Refused(Refusal::Length);
-    }
-    if is_held(slot) {
+    serve(slot, |slot| {
         step_tc(slot, warmer);
-        return Answer::Done;
-    }
-    Answer::Refused(Refusal::Unfit)
+        Ok(Reply::Done)
+    })
 }
 
 pub fn xy_step(slot: &mut [u8], y_axis: bool, up: bool) -> Answer
     ensures { Served (λ g. xy_step_call g y_axis up) slot.old slot.new result }
 {
-    if slot.len() != SIZE {
-        return Answer::Refused(Refusal::Length);
-    }
-    if is_held(slot) {
+    serve(slot, |slot| {
         step_xy(slot, y_axis, up);
-        return Answer::Done;
-    }
-    Answer::Refused(Refusal::Unfit)
+        Ok(Reply::Done)
+    })
 }
 
 pub fn store_tc_limit(slot: &mut [u8], value: u16, selector: u8) -> Answer
     ensures { Served (λ g. store_tc_limit_call g value selector) slot.old slot.new result }
 {
-    if slot.len() != SIZE {
-        return Answer::Refused(Refusal::Length);
-    }
-    if is_held(slot) {
+    serve(slot, |slot| {
         store_limit(slot, value, selector);
-        return Answer::Done;
-    }
-    Answer::Refused(Refusal::Unfit)
+        Ok(Reply::Done)
+    })
 }
 
 // Stages a colour, whatever the gear can do.
 pub fn load_temporaries_from(slot: &mut [u8], setting: ColourSetting) -> Answer
     ensures { Served (λ g. stage_call g setting) slot.old slot.new result }
 {
-    if slot.len() != SIZE {
-        return Answer::Refused(Refusal::Length);
-    }
-    if is_held(slot) {
+    serve(slot, |slot| {
         stage(slot, setting);
-        return Answer::Done;
-    }
-    Answer::Refused(Refusal::Unfit)
+        Ok(Reply::Done)
+    })
 }
 
 pub fn activate_pending_color(slot: &mut [u8]) -> Answer
     ensures { Served (λ g. activate_call g) slot.old slot.new result }
 {
-    if slot.len() != SIZE {
-        return Answer::Refused(Refusal::Length);
-    }
-    if is_held(slot) {
+    serve(slot, |slot| {
         activate(slot);
-        return Answer::Done;
-    }
-    Answer::Refused(Refusal::Unfit)
+        Ok(Reply::Done)
+    })
 }
 
 pub fn copy_report_to_temporary(slot: &mut [u8]) -> Answer
     ensures { Served (λ g. copy_report_call g) slot.old slot.new result }
 {
-    if slot.len() != SIZE {
-        return Answer::Refused(Refusal::Length);
-    }
-    if is_held(slot) {
+    serve(slot, |slot| {
         copy_report(slot);
-        return Answer::Done;
-    }
-    Answer::Refused(Refusal::Unfit)
+        Ok(Reply::Done)
+    })
 }
 
 // The whole byte is stored; only bit 0 has an effect.
 pub fn set_gear_features(slot: &mut [u8], features: u8) -> Answer
     ensures { Served (λ g. set_features_call g features) slot.old slot.new result }
 {
-    if slot.len() != SIZE {
-        return Answer::Refused(Refusal::Length);
-    }
-    if is_held(slot) {
+    serve(slot, |slot| {
         slot[67] = features;
-        return Answer::Done;
-    }
-    Answer::Refused(Refusal::Unfit)
+        Ok(Reply::Done)
+    })
 }
 
 pub fn color_value(slot: &[u8], id: u8) -> Answer
     ensures { result ≡ told (λ g. color_value_call g id) slot.now }
 {
-    tell(slot, value_answer(value_of(colour_of(slot), id)))
+    tell(slot, |slot| value_answer(value_of(colour_of(slot), id)))
 }
 
 pub fn dt8_colour_status(slot: &[u8]) -> Answer
     ensures { result ≡ told (λ g. colour_status_call g) slot.now }
 {
-    let status = status_of(colour_of(slot));
-    tell(slot, Answer::Value(status as u16))
+    tell(
+        slot,
+        |slot| Ok(Reply::Value(status_of(colour_of(slot)) as u16)),
+    )
 }
 
 pub fn dt8_features(slot: &[u8]) -> Answer
     ensures { result ≡ told (λ g. features_call g) slot.now }
 {
-    let features = features_of(colour_of(slot));
-    tell(slot, Answer::Value(features as u16))
+    tell(
+        slot,
+        |slot| Ok(Reply::Value(features_of(colour_of(slot)) as u16)),
+    )
 }
 
 // Part 209's query 251, which a gear without channels does not answer.
 pub fn rgbwaf_control_byte(slot: &[u8]) -> Answer
     ensures { result ≡ told (λ g. control_call g) slot.now }
 {
-    tell(slot, unexplained(value_answer(control_of(colour_of(slot)))))
+    tell(
+        slot,
+        |slot| unexplained(value_answer(control_of(colour_of(slot)))),
+    )
 }
 
 pub fn gear_features_byte(slot: &[u8]) -> Answer
     ensures { result ≡ told (λ g. feature_byte_call g) slot.now }
 {
-    let features = byte(slot, 67);
-    tell(slot, Answer::Value(features as u16))
+    tell(slot, |slot| Ok(Reply::Value(slot[67] as u16)))
 }
 
 pub fn automatic_activation(slot: &[u8]) -> Answer
     ensures { result ≡ told (λ g. automatic_call g) slot.now }
 {
-    tell(slot, flag(automatic(colour_of(slot))))
+    tell(slot, |slot| flag(automatic(colour_of(slot))))
 }

@@ -1,5 +1,4 @@
 // Commands that store a setting, on a slot (part 102, 11.4). Each ends the walk, the reset state and the identify mark.
-ghost use Rattle.std.specs.Prelude.{◌≡◌, length};
 ghost use Rattle.gear.specs.Parts.{with_light};
 ghost use Rattle.gear.specs.Write.{config_write, extended_fade, set_fades, set_member, set_min};
 ghost use Rattle.level.specs.Levels.{set_max_level};
@@ -7,52 +6,50 @@ ghost use Rattle.slot.specs.Held.{Does};
 
 use crate::levels::put_levels;
 use crate::marks::configure;
+use crate::serve::Slot;
 use crate::storing::{remove_scene, set_power_on_level, set_scene, set_system_failure_level};
 use gear::command::ConfigCommand;
 use gear::parts::{extended_fade, set_min};
 use slot::bytes::flag_byte;
 use slot::parts::{levels_of, unit_of};
 
-fn set_max_level(slot: &mut [u8], level: u8)
-    requires { length slot.old ≡ 512 }
+fn set_max_level(slot: &mut Slot, level: u8)
     ensures { Does (λ g. with_light g (set_max_level g.levels level) g.marks g.colour) slot.old slot.new }
 {
-    let levels = levels_of(slot);
-    put_levels(slot, levels.set_max_level(level));
+    let levels = levels_of(slot).set_max_level(level);
+    put_levels(slot, levels);
 }
 
-fn set_min_level(slot: &mut [u8], level: u8)
-    requires { length slot.old ≡ 512 }
+fn set_min_level(slot: &mut Slot, level: u8)
     ensures { Does (λ g. with_light g (set_min g.unit g.levels level) g.marks g.colour) slot.old slot.new }
 {
-    let levels = levels_of(slot);
-    put_levels(slot, set_min(unit_of(slot), levels, level));
+    let levels = set_min(unit_of(slot), levels_of(slot), level);
+    put_levels(slot, levels);
 }
 
-fn set_fade_time(slot: &mut [u8], time: u8)
-    requires { length slot.old ≡ 512 }
+#[tactic(auto, unfolding(slot::specs::Image::image_of))]
+fn set_fade_time(slot: &mut Slot, time: u8)
     ensures { Does (λ g. set_fades g time g.settings.fades.rate g.settings.fades.extended) slot.old slot.new }
 {
     slot[13] = time;
 }
 
-fn set_fade_rate(slot: &mut [u8], rate: u8)
-    requires { length slot.old ≡ 512 }
+#[tactic(auto, unfolding(slot::specs::Image::image_of))]
+fn set_fade_rate(slot: &mut Slot, rate: u8)
     ensures { Does (λ g. set_fades g g.settings.fades.time rate g.settings.fades.extended) slot.old slot.new }
 {
     slot[14] = rate;
 }
 
-fn set_extended_fade_time(slot: &mut [u8], time: u8)
-    requires { length slot.old ≡ 512 }
+fn set_extended_fade_time(slot: &mut Slot, time: u8)
     ensures { Does (λ g. set_fades g g.settings.fades.time g.settings.fades.rate (extended_fade time)) slot.old slot.new }
 {
     slot[15] = extended_fade(time);
 }
 
 // There is no seventeenth group.
-fn set_member(slot: &mut [u8], group: u8, member: bool)
-    requires { length slot.old ≡ 512 }
+#[tactic(auto, unfolding(gear::specs::Scene::stored))]
+fn set_member(slot: &mut Slot, group: u8, member: bool)
     ensures { Does (λ g. set_member g group member) slot.old slot.new }
 {
     if 16 <= group {
@@ -62,8 +59,8 @@ fn set_member(slot: &mut [u8], group: u8, member: bool)
     slot[place] = flag_byte(member);
 }
 
-pub(crate) fn config_write(slot: &mut [u8], command: ConfigCommand, dtr0: u8)
-    requires { length slot.old ≡ 512 }
+#[tactic(auto, unfolding(gear::specs::Write::config_write))]
+pub(crate) fn config_write(slot: &mut Slot, command: ConfigCommand, dtr0: u8)
     ensures { Does (λ g. config_write g command dtr0) slot.old slot.new }
 {
     configure(slot);

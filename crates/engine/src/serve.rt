@@ -1,19 +1,33 @@
-// The test of a slot before a call that only answers.
-ghost use Rattle.std.specs.Prelude.{◌≡◌};
-ghost use Rattle.engine.specs.Served.{told};
+// The tests of a lent slot before a call is made on it: its length, and then whether its bytes are the image of a fit record.
+ghost use Rattle.std.specs.Fn.{FnOnceReturnsAt, FnOnceReturnsAtMut};
+ghost use Rattle.engine.specs.Works.{ServedBy, ToldBy};
 
 use gear::answer::{Answer, Refusal};
 use slot::test::{SIZE, is_held};
 
-// The answer of a call that changes nothing, if the bytes are the image of a fit record.
-pub(crate) fn tell(slot: &[u8], answer: Answer) -> Answer
-    ensures { result ≡ told (λ g. answer) slot.now }
+// The bytes of one record.
+pub(crate) type Slot = [u8; SIZE];
+
+// A call that may change the record.
+pub(crate) fn serve<F: FnOnce(&mut Slot) -> Answer>(slot: &mut [u8], call: F) -> Answer
+    requires { F.IsAlwaysCallable call }
+    ensures { ServedBy (FnOnceReturnsAtMut F.FnOnce call) slot.old slot.new result }
 {
-    if slot.len() != SIZE {
-        return Answer::Refused(Refusal::Length);
+    let slot = slot.as_mut_array().ok_or(Refusal::Length)?;
+    if !is_held(slot) {
+        return Err(Refusal::Unfit);
     }
-    if is_held(slot) {
-        return answer;
+    call(slot)
+}
+
+// A call that only answers.
+pub(crate) fn tell<F: FnOnce(&Slot) -> Answer>(slot: &[u8], call: F) -> Answer
+    requires { F.IsAlwaysCallable call }
+    ensures { ToldBy (FnOnceReturnsAt F.FnOnce call) slot.now result }
+{
+    let slot = slot.as_array().ok_or(Refusal::Length)?;
+    if !is_held(slot) {
+        return Err(Refusal::Unfit);
     }
-    Answer::Refused(Refusal::Unfit)
+    call(slot)
 }

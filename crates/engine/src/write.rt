@@ -1,9 +1,9 @@
 // Standard writes on a slot (part 102, 11.3 and 11.4): arc power, scenes, settings, reset, identify and write enable.
-ghost use Rattle.std.specs.Prelude.{◌≡◌, length};
 ghost use Rattle.colour.specs.Activation.{recall};
 ghost use Rattle.gear.specs.Parts.{with_colour};
 ghost use Rattle.engine.specs.Served.{Served};
 ghost use Rattle.engine.specs.Works.{Works};
+ghost use Rattle.gear.specs.Command.{command_of};
 ghost use Rattle.gear.specs.Write.{apply_standard_write, arc_write, direct_arc_power, recall_scene, write};
 ghost use Rattle.slot.specs.Held.{Does};
 
@@ -12,17 +12,16 @@ use crate::config::config_write;
 use crate::levels::put_levels;
 use crate::marks::{ask, enable_write, identify};
 use crate::reset::reset_gear;
+use crate::serve::{Slot, serve};
 use crate::staging::stage;
 use colour::setting::ColourSetting;
-use gear::answer::{Answer, Refusal};
+use gear::answer::{Answer, Refusal, Reply};
 use gear::command::{StandardCommand, command_of};
 use gear::parts::{keeps_identify, recalled_levels};
 use level::arc::{ArcCommand, apply_arc};
 use slot::parts::{levels_of, setting_at};
-use slot::test::{SIZE, is_held};
 
-fn arc_write(slot: &mut [u8], command: ArcCommand)
-    requires { length slot.old ≡ 512 }
+fn arc_write(slot: &mut Slot, command: ArcCommand)
     ensures { Does (λ g. arc_write g command) slot.old slot.new }
 {
     let levels = levels_of(slot);
@@ -32,20 +31,19 @@ fn arc_write(slot: &mut [u8], command: ArcCommand)
 }
 
 // A scene without a colour leaves what is staged.
-fn recall_colour(slot: &mut [u8], setting: ColourSetting)
-    requires { length slot.old ≡ 512 }
+#[tactic(auto, unfolding(colour::specs::Activation::recall))]
+fn recall_colour(slot: &mut Slot, setting: ColourSetting)
     ensures { Does (λ g. with_colour g (recall g.colour setting)) slot.old slot.new }
 {
-    if setting.kind == ColourSetting::MASK {
-        return;
+    if setting.kind != ColourSetting::MASK {
+        stage(slot, setting);
+        activate_by_arc(slot);
     }
-    stage(slot, setting);
-    activate_by_arc(slot);
 }
 
 // Part 209, 9.11.4: the scene's level and its colour. There is no seventeenth scene.
-fn recall_scene(slot: &mut [u8], scene: u8)
-    requires { length slot.old ≡ 512 }
+#[tactic(auto, unfolding(gear::specs::Write::recall_scene, gear::specs::Scene::scene_at, gear::specs::Write::recalled_levels, colour::specs::Activation::recall))]
+fn recall_scene(slot: &mut Slot, scene: u8)
     ensures { Does (λ g. recall_scene g scene) slot.old slot.new }
 {
     if 16 <= scene {
@@ -56,41 +54,49 @@ fn recall_scene(slot: &mut [u8], scene: u8)
     let levels = levels_of(slot);
     put_levels(slot, recalled_levels(levels, entry.level));
     ask(slot, false);
-    let colour = entry.colour;
-    recall_colour(slot, colour);
+    recall_colour(slot, entry.colour);
 }
 
-// A write by its command; one that no write has is refused and changes nothing.
-pub(crate) fn write(slot: &mut [u8], command: StandardCommand, dtr0: u8) -> Answer
-    requires { length slot.old ≡ 512 }
-    ensures { Works (λ g. write g command dtr0) slot.old slot.new result }
+// A write by its command.
+#[tactic(auto, unfolding(gear::specs::Write::write, gear::specs::Write::identify, gear::specs::Write::enable_write))]
+fn write(slot: &mut Slot, command: StandardCommand, dtr0: u8) -> Answer
+    ensures { Works (λ g. write g (Some command) dtr0) slot.old slot.new result }
 {
     match command {
         StandardCommand::Arc(arc) => {
             arc_write(slot, arc);
-            Answer::Done
+            Ok(Reply::Done)
         }
         StandardCommand::GoToScene(scene) => {
             recall_scene(slot, scene);
-            Answer::Done
+            Ok(Reply::Done)
         }
         StandardCommand::Reset => {
             reset_gear(slot);
-            Answer::Done
+            Ok(Reply::Done)
         }
         StandardCommand::IdentifyDevice => {
             identify(slot);
-            Answer::Done
+            Ok(Reply::Done)
         }
         StandardCommand::Config(config) => {
             config_write(slot, config, dtr0);
-            Answer::Done
+            Ok(Reply::Done)
         }
         StandardCommand::EnableWriteMemory => {
             enable_write(slot);
-            Answer::Done
+            Ok(Reply::Done)
         }
-        StandardCommand::Unknown => Answer::Refused(Refusal::Byte),
+    }
+}
+
+// A byte that no write has is refused and changes nothing.
+fn write_byte(slot: &mut Slot, byte: u8, dtr0: u8) -> Answer
+    ensures { Works (λ g. write g (command_of byte) dtr0) slot.old slot.new result }
+{
+    match command_of(byte) {
+        Some(command) => write(slot, command, dtr0),
+        None => Err(Refusal::Byte),
     }
 }
 
@@ -98,25 +104,15 @@ pub(crate) fn write(slot: &mut [u8], command: StandardCommand, dtr0: u8) -> Answ
 pub fn apply_standard_write(slot: &mut [u8], byte: u8, dtr0: u8) -> Answer
     ensures { Served (λ g. apply_standard_write g byte dtr0) slot.old slot.new result }
 {
-    if slot.len() != SIZE {
-        return Answer::Refused(Refusal::Length);
-    }
-    if is_held(slot) {
-        return write(slot, command_of(byte), dtr0);
-    }
-    Answer::Refused(Refusal::Unfit)
+    serve(slot, |slot| write_byte(slot, byte, dtr0))
 }
 
 // Direct arc power, which has no byte of its own.
 pub fn direct_arc_power(slot: &mut [u8], level: u8) -> Answer
     ensures { Served (λ g. direct_arc_power g level) slot.old slot.new result }
 {
-    if slot.len() != SIZE {
-        return Answer::Refused(Refusal::Length);
-    }
-    if is_held(slot) {
+    serve(slot, |slot| {
         arc_write(slot, ArcCommand::DirectArcPower(level));
-        return Answer::Done;
-    }
-    Answer::Refused(Refusal::Unfit)
+        Ok(Reply::Done)
+    })
 }

@@ -9,9 +9,9 @@ use lib.ListN.{length}
 use native.Mathlib.Nat.{min-eq_left, min-eq_right}
 use native.Mathlib.Omega.{arith}
 use borrow.Author.Tests.{ltb-true, ltb-false, le-ltb, lt-ltb, le-leb, lt-leb, eq-eqb, ne_eqb}
-use Rattle.file.specs.declared.Verdict.{Verdict}
-use Rattle.file.specs.declared.Verdict.TheVariants.{Good, Bad}
-use Rattle.file.specs.File.{Field, layout, end_of, all_good, well_formed, lower, missing, surplus, judged, out_of_range, checked, is_good}
+use Rattle.std.specs.Prelude.{Result, Ok, Err, is_ok, ⊤}
+use Rattle.file.specs.declared.Malformed.{Malformed}
+use Rattle.file.specs.File.{Field, fault, layout, end_of, all_good, well_formed, lower, missing, surplus, judged, out_of_range, checked}
 use Rattle.file.specs.Front.{read, steps_front, colour_front, unit_front, file_front}
 use Rattle.numbers.specs.Numbers.{both, pick}
 use Rattle.numbers.proofs.Logic.{by_cases}
@@ -31,32 +31,32 @@ layout_in_row s =
 
 -- ## The lower of two offsets
 
-lower_good : (v : Verdict) → lower v Good ≡ v
-lower_good Good = refl
-lower_good (Bad x) = refl
+lower_good : (v : Result ⊤ Malformed) → lower v (Ok tt) ≡ v
+lower_good (Ok u) = refl
+lower_good (Err m) = refl
 
-lower_assoc : (x : ℕ) (u v : Verdict) → lower (Bad x) (lower u v) ≡ lower (lower (Bad x) u) v
-lower_assoc x Good v = refl
-lower_assoc x (Bad y) Good = refl
-lower_assoc x (Bad y) (Bad z) = ap Bad (omega arith)
+lower_assoc : (x : ℕ) (u v : Result ⊤ Malformed) → lower (Err (fault x)) (lower u v) ≡ lower (lower (Err (fault x)) u) v
+lower_assoc x (Ok u) v = refl
+lower_assoc x (Err m) (Ok u) = refl
+lower_assoc x (Err m) (Err k) = ap (λ y. Err (fault y)) (omega arith)
 
 -- an offset is the lower one beside any that lies behind it
-lower_first : (t : Bool) (x y : ℕ) → x ≤ y → lower (Bad x) (pick t (Bad y) Good) ≡ Bad x
-lower_first true x y h = ap Bad (min-eq_left h)
+lower_first : (t : Bool) (x y : ℕ) → x ≤ y → lower (Err (fault x)) (pick t (Err (fault y)) (Ok tt)) ≡ Err (fault x)
+lower_first true x y h = ap (λ k. Err (fault k)) (min-eq_left h)
 lower_first false x y h = refl
 
-lower_second : (t : Bool) (x y : ℕ) → x ≤ y → lower (pick t (Bad y) Good) (Bad x) ≡ Bad x
-lower_second true x y h = ap Bad (min-eq_right h)
+lower_second : (t : Bool) (x y : ℕ) → x ≤ y → lower (pick t (Err (fault y)) (Ok tt)) (Err (fault x)) ≡ Err (fault x)
+lower_second true x y h = ap (λ k. Err (fault k)) (min-eq_right h)
 lower_second false x y h = refl
 
-judged_behind : (f : Field) (n x : ℕ) → x ≤ f.first → lower (Bad x) (judged f n) ≡ Bad x
+judged_behind : (f : Field) (n x : ℕ) → x ≤ f.first → lower (Err (fault x)) (judged f n) ≡ Err (fault x)
 judged_behind f n x h =
     by_cases (leb f.past n)
-    (λ whole. rw whole (by_cases f.good (λ ok. rw ok) (λ no. rw no (ap Bad (min-eq_left h)))))
+    (λ whole. rw whole (by_cases f.good (λ ok. rw ok) (λ no. rw no (ap (λ k. Err (fault k)) (min-eq_left h)))))
     (λ cut. rw cut)
 
 -- nothing behind an offset is lower
-range_behind : (a : ℕ) (fs : List Field) (e n x : ℕ) → InRow a fs e → x ≤ a → lower (Bad x) (out_of_range fs n) ≡ Bad x
+range_behind : (a : ℕ) (fs : List Field) (e n x : ℕ) → InRow a fs e → x ≤ a → lower (Err (fault x)) (out_of_range fs n) ≡ Err (fault x)
 range_behind a [] e n x r h = refl
 range_behind a (f ∷ fs) e n x (at, up, r) h =
     lower_assoc x (judged f n) (out_of_range fs n) ∙
@@ -64,7 +64,7 @@ range_behind a (f ∷ fs) e n x (at, up, r) h =
     range_behind f.past fs e n x r (omega arith)
 
 -- no field behind the end of the file is there whole
-range_cut : (a : ℕ) (fs : List Field) (e n : ℕ) → InRow a fs e → n < a → out_of_range fs n ≡ Good
+range_cut : (a : ℕ) (fs : List Field) (e n : ℕ) → InRow a fs e → n < a → out_of_range fs n ≡ Ok tt
 range_cut a [] e n r h = refl
 range_cut a (f ∷ fs) e n (at, up, r) h =
     rw (lt-leb f.past n (omega arith)) (range_cut f.past fs e n r (omega arith))
@@ -101,7 +101,7 @@ both_false false = refl
 
 pub row_exactly :
     (a : ℕ) (fs : List Field) (e n : ℕ) →
-    InRow a fs e → a ≤ n → is_good (read fs n (surplus e n)) ≡ both (eqb n e) (all_good fs)
+    InRow a fs e → a ≤ n → is_ok (read fs n (surplus e n)) ≡ both (eqb n e) (all_good fs)
 row_exactly a [] e n r h =
     by_cases (ltb e n)
     (λ more. simp (more, ne_eqb n e (λ same. omega (arith, ltb-true e n more))))
@@ -122,7 +122,7 @@ unfolding file_front unit_front colour_front steps_front checked
 lowest s = row_lowest 0 (layout s) (end_of s) (length s) (layout_in_row s) (omega arith)
 
 -- a file is accepted exactly where it is well formed
-pub accepted_exactly : (s : List ℕ) → is_good (checked s) ≡ well_formed s
+pub accepted_exactly : (s : List ℕ) → is_ok (checked s) ≡ well_formed s
 unfolding file_front unit_front colour_front steps_front well_formed
 accepted_exactly s =
-    ap is_good (sym (lowest s)) ∙ row_exactly 0 (layout s) (end_of s) (length s) (layout_in_row s) (omega arith)
+    ap is_ok (sym (lowest s)) ∙ row_exactly 0 (layout s) (end_of s) (length s) (layout_in_row s) (omega arith)

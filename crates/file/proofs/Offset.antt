@@ -7,8 +7,8 @@ use lib.Dec.{ltb}
 use lib.ListN.{length}
 use native.Mathlib.Omega.{arith}
 use borrow.Author.Tests.{ltb-true, leb-true}
-use Rattle.file.specs.declared.Verdict.{Verdict}
-use Rattle.file.specs.declared.Verdict.TheVariants.{Good, Bad}
+use Rattle.std.specs.Prelude.{Result, Ok, Err, ⊤}
+use Rattle.file.specs.declared.Malformed.{Malformed}
 use Rattle.file.specs.File.{Field, layout, type_count, profile_at, step_count, end_of, surplus, checked, well_formed}
 use Rattle.file.specs.Front.{read, steps_front, colour_front, unit_front, file_front}
 use Rattle.file.proofs.Lowest.{lowest}
@@ -21,9 +21,9 @@ Within m [] e = e ≤ m
 Within m (f ∷ fs) e = (f.first ≤ m) × (f.past ≤ m) × (f.good ≡ true → Within m fs e)
 
 -- an offset that is at most m
-abbrev AtMost : ℕ → Verdict → Type 0
-AtMost m Good = Unit {0}
-AtMost m (Bad x) = x ≤ m
+abbrev AtMost : ℕ → Result ⊤ Malformed → Type 0
+AtMost m (Ok u) = ⊤
+AtMost m (Err k) = k.offset ≤ m
 
 read_within : (m : ℕ) (fs : List Field) (e n : ℕ) → Within m fs e → AtMost m (read fs n (surplus e n))
 read_within m [] e n w = by_cases (ltb e n) (λ more. rw more w) (λ no. rw no tt)
@@ -86,9 +86,9 @@ layout_within s = (
       ),
 )
 
-pub offset_within : (s : List ℕ) (x : ℕ) → checked s ≡ Bad x → x ≤ 16412
+pub offset_within : (s : List ℕ) (m : Malformed) → checked s ≡ Err m → m.offset ≤ 16412
 unfolding file_front unit_front colour_front steps_front
-offset_within s x h =
+offset_within s m h =
     subst (AtMost 16412) (lowest s ∙ h) (read_within 16412 (layout s) (end_of s) (length s) (layout_within s))
 
 pub length_within : (s : List ℕ) → well_formed s ≡ true → length s ≤ 16412

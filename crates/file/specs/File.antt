@@ -1,7 +1,6 @@
 -- The session file of document 01: its fields, when it is well formed, and the offset that refusal 5 names.
-use Rattle.std.specs.Prelude.{ℕ, ◌+◌, ◌*◌, min, Bool, true, false, List, [], ◌∷◌, ◌++◌, leb, ltb, eqb, length, get_or, take, drop}
-use Rattle.file.specs.declared.Verdict.{Verdict}
-use Rattle.file.specs.declared.Verdict.TheVariants.{Good, Bad}
+use Rattle.std.specs.Prelude.{ℕ, ◌+◌, ◌*◌, min, Bool, true, List, [], ◌∷◌, ◌++◌, leb, ltb, eqb, length, get_or, take, drop, Result, Ok, Err, ⊤}
+use Rattle.file.specs.declared.Malformed.{Malformed}
 use Rattle.numbers.specs.Numbers.{both, pick}
 
 -- A byte of the file. Beyond its end it is 0, on which no judgement rests: a field is judged once it is there whole.
@@ -94,37 +93,37 @@ well_formed s = both (eqb (length s) (end_of s)) (all_good (layout s))
 
 -- ## The offset
 
--- the lower of two offsets, of which either may be missing
-abbrev pub lower : Verdict → Verdict → Verdict
-lower Good v = v
-lower (Bad x) Good = Bad x
-lower (Bad x) (Bad y) = Bad (min x y)
+-- malformed at this offset
+abbrev pub fault : ℕ → Malformed
+fault x = record { offset = x }
+
+-- the lower of two faults, of which either may be missing
+abbrev pub lower : Result ⊤ Malformed → Result ⊤ Malformed → Result ⊤ Malformed
+lower (Ok u) v = v
+lower (Err m) (Ok u) = Err m
+lower (Err m) (Err k) = Err (fault (min m.offset k.offset))
 
 -- the first byte missing, in a file of n bytes that is to end at e
-abbrev pub missing : ℕ → ℕ → Verdict
-missing e n = pick (ltb n e) (Bad n) Good
+abbrev pub missing : ℕ → ℕ → Result ⊤ Malformed
+missing e n = pick (ltb n e) (Err (fault n)) (Ok tt)
 
 -- the first surplus byte
-abbrev pub surplus : ℕ → ℕ → Verdict
-surplus e n = pick (ltb e n) (Bad e) Good
+abbrev pub surplus : ℕ → ℕ → Result ⊤ Malformed
+surplus e n = pick (ltb e n) (Err (fault e)) (Ok tt)
 
 -- the first byte of a field that is there whole and out of range
-abbrev pub judged : Field → ℕ → Verdict
-judged f n = pick (leb f.past n) (pick f.good Good (Bad f.first)) Good
+abbrev pub judged : Field → ℕ → Result ⊤ Malformed
+judged f n = pick (leb f.past n) (pick f.good (Ok tt) (Err (fault f.first))) (Ok tt)
 
 -- the lowest of these
-abbrev pub out_of_range : List Field → ℕ → Verdict
-out_of_range [] n = Good
+abbrev pub out_of_range : List Field → ℕ → Result ⊤ Malformed
+out_of_range [] n = Ok tt
 out_of_range (f ∷ fs) n = lower (judged f n) (out_of_range fs n)
 
 -- Document 01's own words: the lowest of the first byte missing, the first surplus, the first byte of a field out of range. All three
 -- are looked for, over every field; that the first fault met from the front is the lowest is a law (`lowest`), not the definition.
-unfoldable pub checked : List ℕ → Verdict
+unfoldable pub checked : List ℕ → Result ⊤ Malformed
 checked s = lower (missing (end_of s) (length s)) (lower (surplus (end_of s) (length s)) (out_of_range (layout s) (length s)))
-
-abbrev pub is_good : Verdict → Bool
-is_good Good = true
-is_good (Bad x) = false
 
 -- ## The sections, as parts of the file; none of a malformed one
 

@@ -1,8 +1,6 @@
 -- The profile that a session file holds, field by field.
-use Rattle.std.specs.Prelude.{ℕ, ◌+◌, ◌*◌, ◌-◌, ◌/◌, ◌%◌, Bool, List, ◌++◌, eqb, length, replicate}
+use Rattle.std.specs.Prelude.{ℕ, ◌+◌, ◌*◌, ◌-◌, ◌/◌, ◌%◌, Bool, List, ◌++◌, eqb, length, replicate, Option, None, Some}
 use Rattle.gear.specs.declared.profile.Profile.{Profile}
-use Rattle.gear.specs.declared.profile.Short.{Short}
-use Rattle.gear.specs.declared.profile.Short.TheVariants.{Missing, Address}
 use Rattle.gear.specs.declared.profile.Unit.{Unit}
 use Rattle.gear.specs.Profile.{no_profile}
 use Rattle.file.specs.File.{byte, word, well_formed, types_of, profile_of}
@@ -13,8 +11,8 @@ unfoldable pub padded : List ℕ → List ℕ
 padded codes = codes ++ replicate (16 - length codes) 0
 
 -- 255 is none
-unfoldable pub short_of : ℕ → Short
-short_of x = pick (eqb x 255) Missing (Address x)
+unfoldable pub short_of : ℕ → Option ℕ
+short_of x = pick (eqb x 255) None (Some x)
 
 -- the bit of this weight
 abbrev pub bit : ℕ → ℕ → Bool

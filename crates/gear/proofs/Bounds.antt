@@ -6,8 +6,9 @@ use lib.Dec.{eqb}
 use Rattle.gear.specs.declared.answer.Outcome.{Outcome}
 use Rattle.gear.specs.declared.command.ConfigCommand.{ConfigCommand}
 use Rattle.gear.specs.declared.command.ConfigCommand.TheVariants.{SetMaxLevel, SetMinLevel, SetSystemFailureLevel, SetPowerOnLevel, SetFadeTime, SetFadeRate, SetExtendedFadeTime, SetScene, RemoveScene, AddToGroup, RemoveFromGroup}
+use Rattle.std.specs.Prelude.{Option, Some, None}
 use Rattle.gear.specs.declared.command.StandardCommand.{StandardCommand}
-use Rattle.gear.specs.declared.command.StandardCommand.TheVariants.{Arc, GoToScene, Reset, IdentifyDevice, Config, EnableWriteMemory, Unknown}
+use Rattle.gear.specs.declared.command.StandardCommand.TheVariants.{Arc, GoToScene, Reset, IdentifyDevice, Config, EnableWriteMemory}
 use Rattle.gear.specs.declared.record.Gear.{Gear}
 use Rattle.gear.specs.Command.{command_of}
 use Rattle.gear.specs.Profile.{fixed}
@@ -46,15 +47,15 @@ config_bounded g (RemoveScene s) d f b = b
 config_bounded g (AddToGroup n) d f b = b
 config_bounded g (RemoveFromGroup n) d f b = b
 
-pub write_bounded : (g : Gear) (k : StandardCommand) (d : ℕ) → GearFit g → Bounded g.levels → Bounded (write g k d).gear.levels
+pub write_bounded : (g : Gear) (k : Option StandardCommand) (d : ℕ) → GearFit g → Bounded g.levels → Bounded (write g k d).gear.levels
 unfolding write arc_write recall_scene identify enable_write reset_gear
-write_bounded g (Arc a) d f b = LevelBounds.arc_bounded g.levels a f.levels.order b
-write_bounded g (GoToScene s) d f b = recalled_bounded g.levels (scene g s).level f.levels.order b
-write_bounded g Reset d f b = inl refl
-write_bounded g IdentifyDevice d f b = b
-write_bounded g (Config k) d f b = config_bounded g k d f b
-write_bounded g EnableWriteMemory d f b = b
-write_bounded g Unknown d f b = b
+write_bounded g (Some (Arc a)) d f b = LevelBounds.arc_bounded g.levels a f.levels.order b
+write_bounded g (Some (GoToScene s)) d f b = recalled_bounded g.levels (scene g s).level f.levels.order b
+write_bounded g (Some Reset) d f b = inl refl
+write_bounded g (Some IdentifyDevice) d f b = b
+write_bounded g (Some (Config k)) d f b = config_bounded g k d f b
+write_bounded g (Some EnableWriteMemory) d f b = b
+write_bounded g None d f b = b
 
 -- a served outcome that keeps the bound
 pub serve_bounded :

@@ -5,8 +5,9 @@ use mathlib.Core.Bool.{true}
 use lib.Dec.{eqb}
 use Rattle.gear.specs.declared.command.ConfigCommand.{ConfigCommand}
 use Rattle.gear.specs.declared.command.ConfigCommand.TheVariants.{SetMaxLevel, SetMinLevel, SetSystemFailureLevel, SetPowerOnLevel, SetFadeTime, SetFadeRate, SetExtendedFadeTime, SetScene, RemoveScene, AddToGroup, RemoveFromGroup}
+use Rattle.std.specs.Prelude.{Option, Some, None}
 use Rattle.gear.specs.declared.command.StandardCommand.{StandardCommand}
-use Rattle.gear.specs.declared.command.StandardCommand.TheVariants.{Arc, GoToScene, Reset, IdentifyDevice, Config, EnableWriteMemory, Unknown}
+use Rattle.gear.specs.declared.command.StandardCommand.TheVariants.{Arc, GoToScene, Reset, IdentifyDevice, Config, EnableWriteMemory}
 use Rattle.gear.specs.declared.answer.Outcome.{Outcome}
 use Rattle.gear.specs.declared.record.Gear.{Gear}
 use Rattle.gear.specs.Command.{command_of}
@@ -85,15 +86,15 @@ enabled_kept : (g : Gear) → GearFit g → GearFit (enable_write g)
 unfolding enable_write enabled walk_fit
 enabled_kept g f = record { unit = f.unit; levels = f.levels; colour = f.colour; walk = refl }
 
-pub write_kept : (g : Gear) (k : StandardCommand) (d : ℕ) → GearFit g → GearFit (write g k d).gear
+pub write_kept : (g : Gear) (k : Option StandardCommand) (d : ℕ) → GearFit g → GearFit (write g k d).gear
 unfolding write
-write_kept g (Arc a) d f = arc_kept g a f
-write_kept g (GoToScene s) d f = recall_kept g s f
-write_kept g Reset d f = reset_kept g f
-write_kept g IdentifyDevice d f = marked_kept g f
-write_kept g (Config k) d f = config_kept g k d f
-write_kept g EnableWriteMemory d f = enabled_kept g f
-write_kept g Unknown d f = f
+write_kept g (Some (Arc a)) d f = arc_kept g a f
+write_kept g (Some (GoToScene s)) d f = recall_kept g s f
+write_kept g (Some Reset) d f = reset_kept g f
+write_kept g (Some IdentifyDevice) d f = marked_kept g f
+write_kept g (Some (Config k)) d f = config_kept g k d f
+write_kept g (Some EnableWriteMemory) d f = enabled_kept g f
+write_kept g None d f = f
 
 -- ---- the calls
 

@@ -4,10 +4,12 @@ use mathlib.Core.Path.{◌≡◌, refl, sym, ◌∙◌}
 use mathlib.Core.Bool.{Bool, true, false, not}
 use lib.Dec.{T, ltb}
 use lib.ListN.{replicate, length-replicate}
-use Rattle.gear.specs.declared.answer.Answer.TheVariants.{Done}
+use Rattle.std.specs.declared.result.Result.TheVariants.{Ok}
 use Rattle.gear.specs.declared.answer.Refusal.TheVariants.{Unfit, Byte}
+use Rattle.gear.specs.declared.answer.Reply.TheVariants.{Done}
+use Rattle.std.specs.Prelude.{Option, Some, None}
 use Rattle.gear.specs.declared.command.StandardCommand.{StandardCommand}
-use Rattle.gear.specs.declared.command.StandardCommand.TheVariants.{Arc, GoToScene, Reset, IdentifyDevice, Config, EnableWriteMemory, Unknown}
+use Rattle.gear.specs.declared.command.StandardCommand.TheVariants.{Arc, GoToScene, Reset, IdentifyDevice, Config, EnableWriteMemory}
 use Rattle.gear.specs.declared.record.Gear.{Gear}
 use Rattle.gear.specs.Answer.{refused}
 use Rattle.gear.specs.Command.{level_command, config_command, command_of}
@@ -31,14 +33,14 @@ is_write b =
     (pick (ltb b 42) false
     (pick (ltb b 49) true (pick (ltb b 64) false (pick (ltb b 128) true (pick (ltb b 129) false (pick (ltb b 130) true false))))))))))))
 
-abbrev known : StandardCommand → Bool
-known (Arc a) = true
-known (GoToScene s) = true
-known Reset = true
-known IdentifyDevice = true
-known (Config k) = true
-known EnableWriteMemory = true
-known Unknown = false
+abbrev known : Option StandardCommand → Bool
+known (Some (Arc a)) = true
+known (Some (GoToScene s)) = true
+known (Some Reset) = true
+known (Some IdentifyDevice) = true
+known (Some (Config k)) = true
+known (Some EnableWriteMemory) = true
+known None = false
 
 abbrev same : Bool → Bool → Bool
 same true b = b
@@ -60,31 +62,31 @@ unfolding agrees level_command config_command command_of
 known_write b h =
     same_eq (known (command_of b)) (is_write b) (at agrees (replicate 256 0) tt b (rw length-replicate h))
 
-served : (g : Gear) (k : StandardCommand) (d : ℕ) → known k ≡ true → (write g k d).answer ≡ Done
+served : (g : Gear) (k : Option StandardCommand) (d : ℕ) → known k ≡ true → (write g k d).answer ≡ Ok Done
 unfolding write
-served g (Arc a) d e = refl
-served g (GoToScene s) d e = refl
-served g Reset d e = refl
-served g IdentifyDevice d e = refl
-served g (Config k) d e = refl
-served g EnableWriteMemory d e = refl
-served g Unknown d e = no_false e
+served g (Some (Arc a)) d e = refl
+served g (Some (GoToScene s)) d e = refl
+served g (Some Reset) d e = refl
+served g (Some IdentifyDevice) d e = refl
+served g (Some (Config k)) d e = refl
+served g (Some EnableWriteMemory) d e = refl
+served g None d e = no_false e
 
-unknown : (g : Gear) (k : StandardCommand) (d : ℕ) → known k ≡ false → write g k d ≡ refused g Byte
+unknown : (g : Gear) (k : Option StandardCommand) (d : ℕ) → known k ≡ false → write g k d ≡ refused g Byte
 unfolding write
-unknown g (Arc a) d e = no_false (sym e)
-unknown g (GoToScene s) d e = no_false (sym e)
-unknown g Reset d e = no_false (sym e)
-unknown g IdentifyDevice d e = no_false (sym e)
-unknown g (Config k) d e = no_false (sym e)
-unknown g EnableWriteMemory d e = no_false (sym e)
-unknown g Unknown d e = refl
+unknown g (Some (Arc a)) d e = no_false (sym e)
+unknown g (Some (GoToScene s)) d e = no_false (sym e)
+unknown g (Some Reset) d e = no_false (sym e)
+unknown g (Some IdentifyDevice) d e = no_false (sym e)
+unknown g (Some (Config k)) d e = no_false (sym e)
+unknown g (Some EnableWriteMemory) d e = no_false (sym e)
+unknown g None d e = refl
 
 -- one of three: the record is unfit, the byte is no write, or the write is served; a refused record comes back as it was
 pub record WriteRefusals (g : Gear) (b d : ℕ) : Type 0 where
   pub unfit : fitb g ≡ false → apply_standard_write g b d ≡ refused g Unfit
   pub byte : fitb g ≡ true → is_write b ≡ false → apply_standard_write g b d ≡ refused g Byte
-  pub write : fitb g ≡ true → is_write b ≡ true → (apply_standard_write g b d).answer ≡ Done
+  pub write : fitb g ≡ true → is_write b ≡ true → (apply_standard_write g b d).answer ≡ Ok Done
 
 pub write_refusals : (g : Gear) (b d : ℕ) → b < 256 → WriteRefusals g b d
 unfolding serve apply_standard_write

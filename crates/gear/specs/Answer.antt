@@ -1,16 +1,18 @@
 -- Answers, and the numbers that document 01 gives to refusals.
-use Rattle.std.specs.Prelude.{ℕ, Bool}
-use Rattle.gear.specs.declared.answer.Answer.{Answer}
-use Rattle.gear.specs.declared.answer.Answer.TheVariants.{Done, Value, Nothing, Incapable, Refused}
+use Rattle.std.specs.Prelude.{ℕ, Bool, Option, Some, None, Result, Ok, Err}
 use Rattle.gear.specs.declared.answer.Outcome.{Outcome}
 use Rattle.gear.specs.declared.answer.Refusal.{Refusal}
 use Rattle.gear.specs.declared.answer.Refusal.TheVariants.{Profile, Unfit, Byte, Group, File, Length}
+use Rattle.gear.specs.declared.answer.Reply.{Reply}
+use Rattle.gear.specs.declared.answer.Reply.TheVariants.{Done, Value, Nothing, Incapable}
 use Rattle.gear.specs.declared.record.Gear.{Gear}
-use Rattle.bank.specs.declared.memory.Location.{Location}
-use Rattle.bank.specs.declared.memory.Location.TheVariants.{Byte as Stored, Nothing as Unread}
-use Rattle.colour.specs.declared.value.ColourValue.{ColourValue}
-use Rattle.colour.specs.declared.value.ColourValue.TheVariants.{Value as Shown, Unknown, Incapable as Lacking}
+use Rattle.colour.specs.declared.value.NoValue.{NoValue}
+use Rattle.colour.specs.declared.value.NoValue.TheVariants.{Unknown, Incapable as Lacking}
 use Rattle.numbers.specs.Numbers.{pick}
+
+-- what a call that is served replies, or why it is refused
+abbrev pub Answer : Type 0
+Answer = Result Reply Refusal
 
 abbrev pub refusal_number : Refusal → ℕ
 refusal_number Profile = 1
@@ -22,29 +24,29 @@ refusal_number Length = 7
 
 -- yes is 1, no is 0
 unfoldable pub flag : Bool → Answer
-flag b = Value (pick b 1 0)
+flag b = Ok (Value (pick b 1 0))
 
 abbrev pub done : Gear → Outcome
-done g = record { answer = Done; gear = g }
+done g = record { answer = Ok Done; gear = g }
 
 -- the record comes back as it was
 abbrev pub refused : Gear → Refusal → Outcome
-refused g r = record { answer = Refused r; gear = g }
+refused g r = record { answer = Err r; gear = g }
 
 -- an id that no gear has is no value; one whose need this gear lacks is no value either, and says so. Neither is a refusal
-unfoldable pub value_answer : ColourValue → Answer
-value_answer (Shown v) = Value v
-value_answer Unknown = Nothing
-value_answer (Lacking need) = Incapable need
+unfoldable pub value_answer : Result ℕ NoValue → Answer
+value_answer (Ok v) = Ok (Value v)
+value_answer (Err Unknown) = Ok Nothing
+value_answer (Err (Lacking need)) = Ok (Incapable need)
 
 -- both read as 'no value'
 unfoldable pub unexplained : Answer → Answer
-unexplained Done = Done
-unexplained (Value v) = Value v
-unexplained Nothing = Nothing
-unexplained (Incapable need) = Nothing
-unexplained (Refused r) = Refused r
+unexplained (Ok Done) = Ok Done
+unexplained (Ok (Value v)) = Ok (Value v)
+unexplained (Ok Nothing) = Ok Nothing
+unexplained (Ok (Incapable need)) = Ok Nothing
+unexplained (Err r) = Err r
 
-unfoldable pub location_answer : Location → Answer
-location_answer (Stored b) = Value b
-location_answer Unread = Nothing
+unfoldable pub location_answer : Option ℕ → Answer
+location_answer (Some b) = Ok (Value b)
+location_answer None = Ok Nothing

@@ -1,17 +1,13 @@
 -- What a gear remembers of the frames that it heard.
-use Rattle.std.specs.Prelude.{Bool, true, false, leb}
+use Rattle.std.specs.Prelude.{ℕ, Bool, true, false, leb, Option, None, Some}
 use Rattle.gear.specs.declared.marks.Marks.{Marks}
-use Rattle.gear.specs.declared.marks.Pair.{Pair}
-use Rattle.gear.specs.declared.marks.Pair.TheVariants.{Closed}
-use Rattle.gear.specs.declared.marks.Walk.{Walk}
-use Rattle.gear.specs.declared.marks.Walk.TheVariants.{Off, At}
 use Rattle.numbers.specs.Numbers.{both}
 
 abbrev pub fresh_marks : Marks
 fresh_marks =
     record {
-      walk = Off;
-      pair = Closed;
+      walk = None;
+      pair = None;
       reset = true;
       cycled = true;
       initialise = false;
@@ -24,8 +20,8 @@ fresh_marks =
 abbrev pub reset_marks : Marks
 reset_marks =
     record {
-      walk = Off;
-      pair = Closed;
+      walk = None;
+      pair = None;
       reset = true;
       cycled = false;
       initialise = false;
@@ -38,7 +34,7 @@ reset_marks =
 abbrev pub heard : Marks → Bool → Bool → Bool → Bool → Marks
 heard m reset cycled identifying writable =
     record {
-      walk = Off;
+      walk = None;
       pair = m.pair;
       reset = reset;
       cycled = cycled;
@@ -62,7 +58,7 @@ identified m = heard m m.reset m.cycled true m.writable
 unfoldable pub enabled : Marks → Marks
 enabled m = heard m m.reset m.cycled false true
 
-abbrev pub with_walk : Marks → Walk → Marks
+abbrev pub with_walk : Marks → Option ℕ → Marks
 with_walk m w =
     record {
       walk = w;
@@ -75,7 +71,7 @@ with_walk m w =
       writable = m.writable;
     }
 
-abbrev pub with_pair : Marks → Pair → Marks
+abbrev pub with_pair : Marks → Option ℕ → Marks
 with_pair m p =
     record {
       walk = m.walk;
@@ -93,7 +89,7 @@ abbrev pub power_up_marks : Marks → Marks
 power_up_marks m =
     record {
       walk = m.walk;
-      pair = Closed;
+      pair = None;
       reset = m.reset;
       cycled = true;
       initialise = false;
@@ -103,6 +99,6 @@ power_up_marks m =
     }
 
 -- off, or at most 16
-unfoldable pub walk_fit : Walk → Bool
-walk_fit Off = true
-walk_fit (At n) = leb n 16
+unfoldable pub walk_fit : Option ℕ → Bool
+walk_fit None = true
+walk_fit (Some n) = leb n 16

@@ -1,8 +1,6 @@
 -- What a gear is built from, and when document 01 accepts it.
-use Rattle.std.specs.Prelude.{ℕ, Bool, true, false, leb, replicate}
+use Rattle.std.specs.Prelude.{ℕ, Bool, true, false, leb, replicate, Option, None, Some}
 use Rattle.gear.specs.declared.profile.Profile.{Profile}
-use Rattle.gear.specs.declared.profile.Short.{Short}
-use Rattle.gear.specs.declared.profile.Short.TheVariants.{Missing, Address}
 use Rattle.gear.specs.declared.profile.Unit.{Unit}
 use Rattle.gear.specs.Types.{has_type}
 use Rattle.numbers.specs.Numbers.{both, pick}
@@ -19,9 +17,9 @@ unfoldable pub fixed : Unit → Bool
 fixed u = pick u.adjustable false (is_type u 7)
 
 -- 0 to 63, or none
-unfoldable pub short_fit : Short → Bool
-short_fit Missing = true
-short_fit (Address a) = leb a 63
+unfoldable pub short_fit : Option ℕ → Bool
+short_fit None = true
+short_fit (Some a) = leb a 63
 
 -- at most so many types, a random address of 24 bits, a physical minimum of 1 to 254, a short address or none
 unfoldable pub unit_fit : ℕ → Unit → Bool
@@ -40,7 +38,7 @@ no_profile =
     record {
       unit =
           record {
-            short = Missing;
+            short = None;
             random = 0;
             types = replicate 16 0;
             count = 0;

@@ -1,11 +1,11 @@
 -- Standard writes (part 102, 11.3 and 11.4; part 209, 9.11 and 9.12).
-use Rattle.std.specs.Prelude.{ℕ, Bool, true, false, eqb, ltb}
+use Rattle.std.specs.Prelude.{ℕ, Bool, true, false, eqb, ltb, Option, Some, None}
 use Rattle.gear.specs.declared.answer.Outcome.{Outcome}
 use Rattle.gear.specs.declared.answer.Refusal.TheVariants.{Byte}
 use Rattle.gear.specs.declared.command.ConfigCommand.{ConfigCommand}
 use Rattle.gear.specs.declared.command.ConfigCommand.TheVariants.{SetMaxLevel, SetMinLevel, SetSystemFailureLevel, SetPowerOnLevel, SetFadeTime, SetFadeRate, SetExtendedFadeTime, SetScene, RemoveScene, AddToGroup, RemoveFromGroup}
 use Rattle.gear.specs.declared.command.StandardCommand.{StandardCommand}
-use Rattle.gear.specs.declared.command.StandardCommand.TheVariants.{Arc, GoToScene, Reset, IdentifyDevice, Config, EnableWriteMemory, Unknown}
+use Rattle.gear.specs.declared.command.StandardCommand.TheVariants.{Arc, GoToScene, Reset, IdentifyDevice, Config, EnableWriteMemory}
 use Rattle.gear.specs.declared.profile.Unit.{Unit}
 use Rattle.gear.specs.declared.record.Gear.{Gear}
 use Rattle.gear.specs.declared.settings.LevelSetting.{LevelSetting}
@@ -118,14 +118,14 @@ enable_write g = with_marks g (enabled g.marks)
 
 -- ---- the calls
 
-unfoldable pub write : Gear → StandardCommand → ℕ → Outcome
-write g (Arc a) d = done (arc_write g a)
-write g (GoToScene s) d = done (recall_scene g s)
-write g Reset d = done (reset_gear g.unit g.condition g.colour)
-write g IdentifyDevice d = done (identify g)
-write g (Config k) d = done (config_write g k d)
-write g EnableWriteMemory d = done (enable_write g)
-write g Unknown d = refused g Byte
+unfoldable pub write : Gear → Option StandardCommand → ℕ → Outcome
+write g (Some (Arc a)) d = done (arc_write g a)
+write g (Some (GoToScene s)) d = done (recall_scene g s)
+write g (Some Reset) d = done (reset_gear g.unit g.condition g.colour)
+write g (Some IdentifyDevice) d = done (identify g)
+write g (Some (Config k)) d = done (config_write g k d)
+write g (Some EnableWriteMemory) d = done (enable_write g)
+write g None d = refused g Byte
 
 -- a byte that no write has is refused after an unfit record
 unfoldable pub apply_standard_write : Gear → ℕ → ℕ → Outcome

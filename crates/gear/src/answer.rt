@@ -3,12 +3,11 @@ ghost use Rattle.std.specs.Prelude.{◌≡◌};
 ghost use Rattle.gear.specs.Answer.{refusal_number, flag, refused, done, value_answer, unexplained, location_answer};
 
 use crate::record::Gear;
-use bank::memory::Location;
 use colour::capability::Capability;
-use colour::value::ColourValue;
+use colour::value::NoValue;
 
 // Why a call was refused.
-#[derive(Clone, Copy)]
+#[derive(Clone, Copy, PartialEq, Eq, Debug)]
 pub enum Refusal {
     Profile,
     Unfit,
@@ -19,11 +18,11 @@ pub enum Refusal {
     Length,
 }
 
-impl Refusal {
-    pub fn number(self) -> u8
-        ensures { result ≡ refusal_number self }
-    {
-        let refusal = self;
+// Its number (document 01's, and 7).
+impl From<Refusal> for u8 {
+    ghost from_gives = { λ refusal number. number ≡ refusal_number refusal };
+
+    fn from(refusal: Refusal) -> u8 {
         match refusal {
             Refusal::Profile => 1,
             Refusal::Unfit => 2,
@@ -35,14 +34,16 @@ impl Refusal {
     }
 }
 
+// What a call that is served has to say.
 #[derive(Clone, Copy)]
-pub enum Answer {
+pub enum Reply {
     Done,
     Value(u16),
     Nothing,
     Incapable(Capability),
-    Refused(Refusal),
 }
+
+pub type Answer = Result<Reply, Refusal>;
 
 // The answer, and the record that follows.
 #[derive(Clone, Copy)]
@@ -52,20 +53,21 @@ pub struct Outcome {
 }
 
 // Yes is 1, no is 0.
+#[tactic(auto, unfolding(crate::specs::Answer::flag))]
 pub fn flag(yes: bool) -> Answer
     ensures { result ≡ flag yes }
 {
     if yes {
-        return Answer::Value(1);
+        return Ok(Reply::Value(1));
     }
-    Answer::Value(0)
+    Ok(Reply::Value(0))
 }
 
 pub fn done(gear: Gear) -> Outcome
     ensures { result ≡ done gear }
 {
     Outcome {
-        answer: Answer::Done,
+        answer: Ok(Reply::Done),
         gear: gear,
     }
 }
@@ -75,41 +77,41 @@ pub fn refused(gear: Gear, refusal: Refusal) -> Outcome
     ensures { result ≡ refused gear refusal }
 {
     Outcome {
-        answer: Answer::Refused(refusal),
+        answer: Err(refusal),
         gear: gear,
     }
 }
 
 // The answer of a colour value.
-pub fn value_answer(value: ColourValue) -> Answer
+#[tactic(auto, unfolding(crate::specs::Answer::value_answer))]
+pub fn value_answer(value: Result<u16, NoValue>) -> Answer
     ensures { result ≡ value_answer value }
 {
     match value {
-        ColourValue::Value(number) => Answer::Value(number),
-        ColourValue::Unknown => Answer::Nothing,
-        ColourValue::Incapable(need) => Answer::Incapable(need),
+        Ok(number) => Ok(Reply::Value(number)),
+        Err(NoValue::Unknown) => Ok(Reply::Nothing),
+        Err(NoValue::Incapable(need)) => Ok(Reply::Incapable(need)),
     }
 }
 
 // The same answer where nobody is told why there is no value.
+#[tactic(auto, unfolding(crate::specs::Answer::unexplained))]
 pub fn unexplained(answer: Answer) -> Answer
     ensures { result ≡ unexplained answer }
 {
     match answer {
-        Answer::Done => Answer::Done,
-        Answer::Value(number) => Answer::Value(number),
-        Answer::Nothing => Answer::Nothing,
-        Answer::Incapable(_) => Answer::Nothing,
-        Answer::Refused(refusal) => Answer::Refused(refusal),
+        Ok(Reply::Incapable(_)) => Ok(Reply::Nothing),
+        _ => answer,
     }
 }
 
 // The answer of a memory location.
-pub fn location_answer(found: Location) -> Answer
+#[tactic(auto, unfolding(crate::specs::Answer::location_answer))]
+pub fn location_answer(found: Option<u8>) -> Answer
     ensures { result ≡ location_answer found }
 {
     match found {
-        Location::Byte(byte) => Answer::Value(byte as u16),
-        Location::Nothing => Answer::Nothing,
+        Some(byte) => Ok(Reply::Value(byte as u16)),
+        None => Ok(Reply::Nothing),
     }
 }

@@ -29,65 +29,62 @@ pub enum StandardCommand {
     IdentifyDevice,
     Config(ConfigCommand),
     EnableWriteMemory,
-    // No write has this byte.
-    Unknown,
 }
 
 // Bytes 0 to 15.
-fn level_command(low: u8) -> StandardCommand
+#[tactic(auto, unfolding(crate::specs::Command::level_command))]
+fn level_command(low: u8) -> Option<StandardCommand>
     ensures { result ≡ level_command low }
 {
-    match low {
-        0 => StandardCommand::Arc(ArcCommand::Off),
-        1 => StandardCommand::Arc(ArcCommand::Up),
-        2 => StandardCommand::Arc(ArcCommand::Down),
-        3 => StandardCommand::Arc(ArcCommand::StepUp),
-        4 => StandardCommand::Arc(ArcCommand::StepDown),
-        5 => StandardCommand::Arc(ArcCommand::RecallMaxLevel),
-        6 => StandardCommand::Arc(ArcCommand::RecallMinLevel),
-        7 => StandardCommand::Arc(ArcCommand::StepDownAndOff),
-        8 => StandardCommand::Arc(ArcCommand::OnAndStepUp),
-        10 => StandardCommand::Arc(ArcCommand::GoToLastActiveLevel),
-        _ => StandardCommand::Unknown,
-    }
+    let command = match low {
+        0 => ArcCommand::Off,
+        1 => ArcCommand::Up,
+        2 => ArcCommand::Down,
+        3 => ArcCommand::StepUp,
+        4 => ArcCommand::StepDown,
+        5 => ArcCommand::RecallMaxLevel,
+        6 => ArcCommand::RecallMinLevel,
+        7 => ArcCommand::StepDownAndOff,
+        8 => ArcCommand::OnAndStepUp,
+        10 => ArcCommand::GoToLastActiveLevel,
+        _ => return None,
+    };
+    Some(StandardCommand::Arc(command))
 }
 
 // Bytes 32 to 47.
-fn config_command(low: u8) -> StandardCommand
+#[tactic(auto, unfolding(crate::specs::Command::config_command))]
+fn config_command(low: u8) -> Option<StandardCommand>
     ensures { result ≡ config_command low }
 {
     match low {
-        0 => StandardCommand::Reset,
-        5 => StandardCommand::IdentifyDevice,
-        10 => StandardCommand::Config(ConfigCommand::SetMaxLevel),
-        11 => StandardCommand::Config(ConfigCommand::SetMinLevel),
-        12 => StandardCommand::Config(ConfigCommand::SetSystemFailureLevel),
-        13 => StandardCommand::Config(ConfigCommand::SetPowerOnLevel),
-        14 => StandardCommand::Config(ConfigCommand::SetFadeTime),
-        15 => StandardCommand::Config(ConfigCommand::SetFadeRate),
-        _ => StandardCommand::Unknown,
+        0 => Some(StandardCommand::Reset),
+        5 => Some(StandardCommand::IdentifyDevice),
+        10 => Some(StandardCommand::Config(ConfigCommand::SetMaxLevel)),
+        11 => Some(StandardCommand::Config(ConfigCommand::SetMinLevel)),
+        12 => Some(StandardCommand::Config(ConfigCommand::SetSystemFailureLevel)),
+        13 => Some(StandardCommand::Config(ConfigCommand::SetPowerOnLevel)),
+        14 => Some(StandardCommand::Config(ConfigCommand::SetFadeTime)),
+        15 => Some(StandardCommand::Config(ConfigCommand::SetFadeRate)),
+        _ => None,
     }
 }
 
-pub fn command_of(byte: u8) -> StandardCommand
+// None where no write has the byte. It is a byte of the bus, decoded here alone.
+#[tactic(auto, unfolding(crate::specs::Command::command_of))]
+pub fn command_of(byte: u8) -> Option<StandardCommand>
     ensures { result ≡ command_of byte }
 {
-    let block = byte / 16;
-    let low = byte % 16;
-    if byte == 48 {
-        return StandardCommand::Config(ConfigCommand::SetExtendedFadeTime);
-    }
-    if byte == 129 {
-        return StandardCommand::EnableWriteMemory;
-    }
-    match block {
-        0 => level_command(low),
-        1 => StandardCommand::GoToScene(low),
-        2 => config_command(low),
-        4 => StandardCommand::Config(ConfigCommand::SetScene(low)),
-        5 => StandardCommand::Config(ConfigCommand::RemoveScene(low)),
-        6 => StandardCommand::Config(ConfigCommand::AddToGroup(low)),
-        7 => StandardCommand::Config(ConfigCommand::RemoveFromGroup(low)),
-        _ => StandardCommand::Unknown,
+    match (byte / 16, byte % 16) {
+        (0, low) => level_command(low),
+        (1, scene) => Some(StandardCommand::GoToScene(scene)),
+        (2, low) => config_command(low),
+        (3, 0) => Some(StandardCommand::Config(ConfigCommand::SetExtendedFadeTime)),
+        (4, scene) => Some(StandardCommand::Config(ConfigCommand::SetScene(scene))),
+        (5, scene) => Some(StandardCommand::Config(ConfigCommand::RemoveScene(scene))),
+        (6, group) => Some(StandardCommand::Config(ConfigCommand::AddToGroup(group))),
+        (7, group) => Some(StandardCommand::Config(ConfigCommand::RemoveFromGroup(group))),
+        (8, 1) => Some(StandardCommand::EnableWriteMemory),
+        _ => None,
     }
 }

@@ -49,9 +49,12 @@ impl Condition {
     pub(crate) fn reset(self) -> Condition
         ensures { result ≡ reset_condition self }
     {
-        let mut next = self;
-        next.lamp.failure = false;
-        next.lamp.starting = false;
-        next
+        Condition {
+            lamp: Lamp {
+                failure: false,
+                starting: false,
+            },
+            ..self
+        }
     }
 }

@@ -2,24 +2,12 @@
 ghost use Rattle.std.specs.Prelude.{◌≡◌};
 ghost use Rattle.gear.specs.Marks.{fresh_marks, reset_marks, heard, asked, configured, identified, enabled, with_walk, with_pair, power_up_marks, walk_fit};
 
-// The walk through the type list: off, or at the next entry to tell.
-#[derive(Clone, Copy)]
-pub enum Walk {
-    Off,
-    At(u8),
-}
-
-// A frame that was heard once and waits for its second copy.
-#[derive(Clone, Copy)]
-pub enum Pair {
-    Closed,
-    Open(u16),
-}
-
 #[derive(Clone, Copy)]
 pub struct Marks {
-    pub walk: Walk,
-    pub pair: Pair,
+    // The next entry of the type list to tell, while a walk is on.
+    pub walk: Option<u8>,
+    // The frame that was heard once and waits for its second copy.
+    pub pair: Option<u16>,
     // Nothing was configured since the last reset.
     pub reset: bool,
     // No arc power command was heard since the last power cycle.
@@ -36,8 +24,8 @@ impl Marks {
         ensures { result ≡ fresh_marks }
     {
         Marks {
-            walk: Walk::Off,
-            pair: Pair::Closed,
+            walk: None,
+            pair: None,
             reset: true,
             cycled: true,
             initialise: false,
@@ -51,114 +39,84 @@ impl Marks {
     pub(crate) fn reset() -> Marks
         ensures { result ≡ reset_marks }
     {
-        let mut marks = Marks::fresh();
-        marks.cycled = false;
-        marks
+        Marks {
+            cycled: false,
+            ..Marks::fresh()
+        }
     }
 
     // Every write ends the walk; the four marks that a write can change are given.
     fn heard(self, reset: bool, cycled: bool, identifying: bool, writable: bool) -> Marks
         ensures { result ≡ heard self reset cycled identifying writable }
     {
-        let pair = self.pair;
         Marks {
-            walk: Walk::Off,
-            pair: pair,
+            walk: None,
             reset: reset,
             cycled: cycled,
-            initialise: self.initialise,
-            withdrawn: self.withdrawn,
             identifying: identifying,
             writable: writable,
+            ..self
         }
     }
 
     // A command that asks for a level ends the power-cycle mark and the identify mark, unless it keeps that one.
+    #[tactic(auto, unfolding(crate::specs::Marks::asked))]
     pub fn asked(self, keeps: bool) -> Marks
         ensures { result ≡ asked self keeps }
     {
-        if keeps {
-            return self.heard(self.reset, false, self.identifying, self.writable);
-        }
-        self.heard(self.reset, false, false, self.writable)
+        self.heard(self.reset, false, keeps && self.identifying, self.writable)
     }
 
     // A setting ends the reset state and the identify mark.
+    #[tactic(auto, unfolding(crate::specs::Marks::configured))]
     pub fn configured(self) -> Marks
         ensures { result ≡ configured self }
     {
         self.heard(false, self.cycled, false, self.writable)
     }
 
+    #[tactic(auto, unfolding(crate::specs::Marks::identified))]
     pub fn identified(self) -> Marks
         ensures { result ≡ identified self }
     {
         self.heard(self.reset, self.cycled, true, self.writable)
     }
 
+    #[tactic(auto, unfolding(crate::specs::Marks::enabled))]
     pub fn enabled(self) -> Marks
         ensures { result ≡ enabled self }
     {
         self.heard(self.reset, self.cycled, false, true)
     }
 
-    pub fn with_walk(self, walk: Walk) -> Marks
+    pub fn with_walk(self, walk: Option<u8>) -> Marks
         ensures { result ≡ with_walk self walk }
     {
-        let pair = self.pair;
-        Marks {
-            walk: walk,
-            pair: pair,
-            reset: self.reset,
-            cycled: self.cycled,
-            initialise: self.initialise,
-            withdrawn: self.withdrawn,
-            identifying: self.identifying,
-            writable: self.writable,
-        }
+        Marks { walk: walk, ..self }
     }
 
-    pub fn with_pair(self, pair: Pair) -> Marks
+    pub fn with_pair(self, pair: Option<u16>) -> Marks
         ensures { result ≡ with_pair self pair }
     {
-        let walk = self.walk;
-        Marks {
-            walk: walk,
-            pair: pair,
-            reset: self.reset,
-            cycled: self.cycled,
-            initialise: self.initialise,
-            withdrawn: self.withdrawn,
-            identifying: self.identifying,
-            writable: self.writable,
-        }
+        Marks { pair: pair, ..self }
     }
 
-    // Power-up ends an open pair and every mark but the walk and the reset state, and is seen.
+    // After power-up: as fresh, but the walk and the reset state stay.
     pub fn power_up(self) -> Marks
         ensures { result ≡ power_up_marks self }
     {
-        let walk = self.walk;
         Marks {
-            walk: walk,
-            pair: Pair::Closed,
+            walk: self.walk,
             reset: self.reset,
-            cycled: true,
-            initialise: false,
-            withdrawn: false,
-            identifying: false,
-            writable: false,
+            ..Marks::fresh()
         }
     }
 
     // A walk is off, or at most at the end of the longest list.
+    #[tactic(auto, unfolding(crate::specs::Marks::walk_fit))]
     pub(crate) fn fit(self) -> bool
         ensures { result ≡ walk_fit self.walk }
     {
-        let walk = self.walk;
-        match walk {
-            Walk::Off => true,
-            Walk::At(next) => next <= 16,
-        }
+        self.walk.is_none_or(|next| next <= 16)
     }
 }

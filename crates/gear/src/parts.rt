@@ -11,49 +11,43 @@ use level::levels::Levels;
 const EXTENDED_FADE_MAX: u8 = 79;
 
 // Part 102, 9.14.3: recalling the highest or the lowest level leaves the identify mark.
+#[tactic(auto, unfolding(crate::specs::Write::keeps_identify))]
 pub fn keeps_identify(command: ArcCommand) -> bool
     ensures { result ≡ keeps_identify command }
 {
-    match command {
-        ArcCommand::DirectArcPower(_) => false,
-        ArcCommand::Off => false,
-        ArcCommand::Up => false,
-        ArcCommand::Down => false,
-        ArcCommand::StepUp => false,
-        ArcCommand::StepDown => false,
-        ArcCommand::RecallMaxLevel => true,
-        ArcCommand::RecallMinLevel => true,
-        ArcCommand::StepDownAndOff => false,
-        ArcCommand::OnAndStepUp => false,
-        ArcCommand::GoToLastActiveLevel => false,
-    }
+    matches!(
+        command,
+        ArcCommand::RecallMaxLevel | ArcCommand::RecallMinLevel
+    )
 }
 
 // A scene without a level asks for none.
+#[tactic(auto, unfolding(crate::specs::Write::recalled_levels))]
 pub fn recalled_levels(levels: Levels, level: u8) -> Levels
     ensures { result ≡ recalled_levels levels level }
 {
     if level == SCENE_UNSET {
-        return levels;
+        levels
+    } else {
+        levels.set_level(level)
     }
-    levels.set_level(level)
 }
 
 // Part 208: a switching gear may have a fixed lowest level.
+#[tactic(auto, unfolding(crate::specs::Write::set_min))]
 pub fn set_min(unit: Unit, levels: Levels, asked: u8) -> Levels
     ensures { result ≡ set_min unit levels asked }
 {
     if unit.levels_fixed() {
-        return levels;
+        levels
+    } else {
+        levels.set_min_level(unit.min_level_floor(), asked)
     }
-    levels.set_min_level(unit.min_level_floor(), asked)
 }
 
+#[tactic(auto, unfolding(crate::specs::Write::extended_fade))]
 pub fn extended_fade(asked: u8) -> u8
     ensures { result ≡ extended_fade asked }
 {
-    if EXTENDED_FADE_MAX < asked {
-        return 0;
-    }
-    asked
+    if asked <= EXTENDED_FADE_MAX { asked } else { 0 }
 }

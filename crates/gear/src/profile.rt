@@ -1,21 +1,17 @@
 // What a gear is built from.
 ghost use Rattle.std.specs.Prelude.{◌≡◌};
-ghost use Rattle.gear.specs.Profile.{is_type, floor, fixed, short_fit, unit_fit, no_profile, accepted};
+ghost use Rattle.gear.specs.Profile.{is_type, floor, fixed, unit_fit, no_profile, accepted};
 
 use crate::types::{COLOUR, LED, SWITCHING, has_type};
 use colour::record::Capabilities;
 
-#[derive(Clone, Copy)]
-pub enum Short {
-    Missing,
-    Address(u8),
-}
-
 // What a profile fixes for good.
 #[derive(Clone, Copy)]
 pub struct Unit {
-    pub short: Short,
+    // One of 64 short addresses, or none.
+    pub short: Option<u8>,
     pub random: u32,
+    // Sixteen entries, of which the first `count` are meant: no heap (document 01's form of the Rust's Vec).
     pub types: [u8; 16],
     pub count: u8,
     // A switching gear whose thresholds can be adjusted.
@@ -40,22 +36,12 @@ pub const PROFILE_TYPES: u8 = 13;
 
 pub const RECORD_TYPES: u8 = 16;
 
-// Part 102: an address is one of 64.
-fn short_fit(short: Short) -> bool
-    ensures { result ≡ short_fit short }
-{
-    match short {
-        Short::Missing => true,
-        Short::Address(address) => address <= 63,
-    }
-}
-
 impl Unit {
+    #[tactic(auto, unfolding(crate::specs::Profile::is_type))]
     pub fn is_type(self, code: u8) -> bool
         ensures { result ≡ is_type self code }
     {
-        let types = self.types;
-        has_type(types, self.count, code)
+        has_type(self.types, self.count, code)
     }
 
     pub fn is_dt6(self) -> bool
@@ -77,43 +63,31 @@ impl Unit {
     }
 
     // Part 208, table 2: a switching gear goes down to 1.
+    #[tactic(auto, unfolding(crate::specs::Profile::floor))]
     pub fn min_level_floor(self) -> u8
         ensures { result ≡ floor self }
     {
-        if self.is_dt7() {
-            return 1;
-        }
-        self.minimum
+        if self.is_dt7() { 1 } else { self.minimum }
     }
 
     // Part 208, 9.4: the lowest level of a switching gear is fixed, unless its thresholds are adjustable.
+    #[tactic(auto, unfolding(crate::specs::Profile::fixed))]
     pub(crate) fn levels_fixed(self) -> bool
         ensures { result ≡ fixed self }
     {
-        if self.adjustable {
-            return false;
-        }
-        self.is_dt7()
+        !self.adjustable && self.is_dt7()
     }
 
     // Document 01's limits on a profile, with at most `most` types.
+    #[tactic(auto, unfolding(crate::specs::Profile::short_fit, crate::specs::Profile::unit_fit))]
     pub(crate) fn fit(self, most: u8) -> bool
         ensures { result ≡ unit_fit most self }
     {
-        let short = self.short;
-        if most < self.count {
-            return false;
-        }
-        if 16777215 < self.random {
-            return false;
-        }
-        if self.minimum < 1 {
-            return false;
-        }
-        if 254 < self.minimum {
-            return false;
-        }
-        short_fit(short)
+        self.count <= most
+            && self.random <= 16777215
+            && 1 <= self.minimum
+            && self.minimum <= 254
+            && self.short.is_none_or(|address| address <= 63)
     }
 }
 
@@ -124,7 +98,7 @@ impl Profile {
     {
         Profile {
             unit: Unit {
-                short: Short::Missing,
+                short: None,
                 random: 0,
                 types: [0; 16],
                 count: 0,
@@ -143,19 +117,13 @@ impl Profile {
         }
     }
 
+    #[tactic(auto, unfolding(crate::specs::Profile::accepted))]
     pub fn accepted(self) -> bool
         ensures { result ≡ accepted self }
     {
-        let unit = self.unit;
-        if 6 < self.can.channels {
-            return false;
-        }
-        if self.warmest < self.coolest {
-            return false;
-        }
-        if 65534 < self.warmest {
-            return false;
-        }
-        unit.fit(PROFILE_TYPES)
+        self.can.channels <= 6
+            && self.coolest <= self.warmest
+            && self.warmest <= 65534
+            && self.unit.fit(PROFILE_TYPES)
     }
 }

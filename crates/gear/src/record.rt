@@ -29,16 +29,21 @@ pub struct Gear {
 
 impl Gear {
     // A new gear of a profile, whatever that is.
+    #[tactic(auto, unfolding(crate::specs::Record::fresh_gear))]
     fn fresh(profile: Profile) -> Gear
         ensures { result ≡ fresh_gear profile }
     {
-        let unit = profile.unit;
-        let can = profile.can;
+        let Profile {
+            unit,
+            can,
+            coolest,
+            warmest,
+        } = profile;
         Gear {
-            unit: unit,
+            unit,
             levels: Levels::fresh(unit.minimum),
             marks: Marks::fresh(),
-            colour: Colour::fresh(can, profile.coolest, profile.warmest),
+            colour: Colour::fresh(can, coolest, warmest),
             settings: Settings::factory(unit, can),
             scenes: [LevelSetting::unset(); 16],
             condition: Condition::fresh(),
@@ -47,6 +52,7 @@ impl Gear {
     }
 
     // The gear of an accepted profile. A refusal comes with a record that no call accepts.
+    #[tactic(auto, unfolding(crate::specs::Record::new_gear))]
     pub fn new(profile: Profile) -> Outcome
         ensures { result ≡ new_gear profile }
     {
@@ -57,37 +63,28 @@ impl Gear {
     }
 
     // Document 01's fit record.
+    #[tactic(auto, unfolding(crate::specs::Record::fitb))]
     pub fn fit(self) -> bool
         ensures { result ≡ fitb self }
     {
-        let unit = self.unit;
-        let levels = self.levels;
-        let marks = self.marks;
-        let colour = self.colour;
-        if unit.fit(RECORD_TYPES) {
-            if levels.fit(unit.min_level_floor()) {
-                if colour.fit() {
-                    return marks.fit();
-                }
-                return false;
-            }
-            return false;
-        }
-        false
+        self.unit.fit(RECORD_TYPES)
+            && self.levels.fit(self.unit.min_level_floor())
+            && self.colour.fit()
+            && self.marks.fit()
     }
 
     // Part 102, 11.4.2 and part 209, table 8: a reset keeps the profile, enabled, the faults and the active colour; the rest is
     // that of a new gear, without the mark of a power cycle.
+    #[tactic(auto, unfolding(crate::specs::Record::reset_gear))]
     pub fn reset_gear(unit: Unit, condition: Condition, colour: Colour) -> Gear
         ensures { result ≡ reset_gear unit condition colour }
     {
-        let can = colour.can;
         Gear {
-            unit: unit,
+            unit,
             levels: Levels::fresh(unit.minimum),
             marks: Marks::reset(),
             colour: colour.reset(),
-            settings: Settings::factory(unit, can),
+            settings: Settings::factory(unit, colour.can),
             scenes: [LevelSetting::unset(); 16],
             condition: condition.reset(),
             banks: Banks::build(unit.random),

@@ -4,50 +4,30 @@ ghost use Rattle.gear.specs.Scene.{scene_at, member_at, stored};
 
 use crate::settings::LevelSetting;
 
+// What an array of sixteen is with one entry stored.
+#[tactic(auto, unfolding(crate::specs::Scene::stored))]
+pub(crate) fn with_entry<T: Copy>(mut entries: [T; 16], at: u8, entry: T) -> [T; 16]
+    ensures { result ≡ stored entries at entry }
+{
+    if at < 16 {
+        entries[at as usize] = entry;
+    }
+    entries
+}
+
+#[tactic(auto, unfolding(crate::specs::Scene::scene_at))]
 pub fn scene_at(scenes: [LevelSetting; 16], scene: u8) -> LevelSetting
     ensures { result ≡ scene_at scenes scene }
 {
-    if 16 <= scene {
-        return LevelSetting::unset();
-    }
-    let at = scene as usize;
-    scenes[at]
+    scenes
+        .get(scene as usize)
+        .copied()
+        .unwrap_or(LevelSetting::unset())
 }
 
-pub fn with_scene(
-    scenes: [LevelSetting; 16],
-    scene: u8,
-    setting: LevelSetting,
-) -> [LevelSetting; 16]
-    ensures { result ≡ stored scenes scene setting }
-{
-    if 16 <= scene {
-        return scenes;
-    }
-    let mut next = scenes;
-    let at = scene as usize;
-    next[at] = setting;
-    next
-}
-
+#[tactic(auto, unfolding(crate::specs::Scene::member_at))]
 pub fn is_member(groups: [bool; 16], group: u8) -> bool
     ensures { result ≡ member_at groups group }
 {
-    if 16 <= group {
-        return false;
-    }
-    let at = group as usize;
-    groups[at]
-}
-
-pub fn with_member(groups: [bool; 16], group: u8, member: bool) -> [bool; 16]
-    ensures { result ≡ stored groups group member }
-{
-    if 16 <= group {
-        return groups;
-    }
-    let mut next = groups;
-    let at = group as usize;
-    next[at] = member;
-    next
+    groups.get(group as usize).copied().unwrap_or(false)
 }

@@ -1,10 +1,22 @@
-// Every call that takes a record serves a fit one and refuses any other. One that changes the record tests it first, and works on
-// no record that it refuses; one that only answers does so here.
+// Every call that takes a record serves a fit one and refuses any other. What a call does it does to any record; here the outcome goes to
+// a fit one alone.
 ghost use Rattle.std.specs.Prelude.{◌≡◌};
-ghost use Rattle.gear.specs.Serve.{tell};
+ghost use Rattle.gear.specs.Serve.{serve, tell};
 
-use crate::answer::{Answer, Refusal};
+use crate::answer::{Answer, Outcome, Refusal, refused};
 use crate::record::Gear;
+
+// The outcome of a call that may change the record, if it is fit.
+#[tactic(auto, unfolding(crate::specs::Serve::serve))]
+pub fn serve(gear: Gear, outcome: Outcome) -> Outcome
+    ensures { result ≡ serve gear outcome }
+{
+    if gear.fit() {
+        outcome
+    } else {
+        refused(gear, Refusal::Unfit)
+    }
+}
 
 // The answer of a call that changes nothing, if the record is fit.
 pub fn tell(gear: Gear, answer: Answer) -> Answer
@@ -13,5 +25,5 @@ pub fn tell(gear: Gear, answer: Answer) -> Answer
     if gear.fit() {
         return answer;
     }
-    Answer::Refused(Refusal::Unfit)
+    Err(Refusal::Unfit)
 }

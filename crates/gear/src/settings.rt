@@ -85,18 +85,16 @@ impl Settings {
 
 // Part 209, 9.2.2, 9.3.2, 9.11.4: the level, with the staged colour where there is one, which is then taken away; else with the
 // colour that was there.
+#[tactic(auto, unfolding(crate::specs::Settings::store_level_setting))]
 pub fn store_level_setting(kept: LevelSetting, level: u8, colour: Colour) -> StoredLevel
     ensures { result ≡ store_level_setting kept level colour }
 {
-    let old = kept.colour;
-    let taken = take_staged_colour(colour, old);
-    let new = taken.setting;
-    let rest = taken.colour;
+    let taken = take_staged_colour(colour, kept.colour);
     StoredLevel {
         setting: LevelSetting {
-            colour: new,
-            level: level,
+            colour: taken.setting,
+            level,
         },
-        colour: rest,
+        colour: taken.colour,
     }
 }

@@ -8,18 +8,12 @@ pub const SWITCHING: u8 = 7;
 
 pub const COLOUR: u8 = 8;
 
+#[tactic(auto, unfolding(crate::specs::Types::has_type))]
 pub(crate) fn has_type(types: [u8; 16], count: u8, code: u8) -> bool
     ensures { result ≡ has_type types count code }
 {
-    let mut i: usize = 0;
-    while i < 16 {
-        if count as usize <= i {
-            return false;
-        }
-        if types[i] == code {
-            return true;
-        }
-        i += 1;
-    }
-    false
+    types
+        .iter()
+        .take(count as usize)
+        .any(|other| *other == code)
 }

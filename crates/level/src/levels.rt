@@ -2,7 +2,7 @@
 ghost use Rattle.std.specs.Prelude.{◌≡◌};
 ghost use Rattle.level.specs.Levels.{set_level, readjusts, readjust, set_min_level, set_max_level, fresh, power_up, levels_fit};
 
-use numbers::byte::{clamp, min};
+use numbers::clamp;
 
 #[derive(Clone, Copy)]
 pub struct Levels {
@@ -33,103 +33,99 @@ impl Levels {
     }
 
     // Part 102, 9.13: the power-on level as it is stored, unless it is the mask.
+    #[tactic(auto, unfolding(crate::specs::Levels::power_up))]
     pub fn power_up(self, stored: u8) -> Levels
         ensures { result ≡ power_up self stored }
     {
-        let mut next = self;
-        next.last = self.max;
-        next.error = false;
-        if stored == Levels::MASK {
-            return next;
+        Levels {
+            level: if stored == Levels::MASK {
+                self.level
+            } else {
+                stored
+            },
+            last: self.max,
+            error: false,
+            ..self
         }
-        next.level = stored;
-        next
     }
 
     // Part 102, 9.16.5: 0 is off; any other level is held within the limits, and marked where that moved it.
+    #[tactic(auto, unfolding(crate::specs::Levels::set_level, crate::specs::Levels::held))]
     pub fn set_level(self, asked: u8) -> Levels
         ensures { result ≡ set_level self asked }
     {
-        let mut next = self;
         if asked == 0 {
-            next.level = 0;
-            next.error = false;
-            return next;
+            return Levels {
+                level: 0,
+                error: false,
+                ..self
+            };
         }
         let level = clamp(asked, self.min, self.max);
-        next.level = level;
-        next.error = level != asked;
-        if 0 < level {
-            next.last = level;
-            return next;
+        Levels {
+            level,
+            last: if 0 < level { level } else { self.last },
+            error: level != asked,
+            ..self
         }
-        next
     }
 
     // Whether new limits move the level.
+    #[tactic(auto, unfolding(crate::specs::Levels::readjusts))]
     fn readjusts(self) -> bool
         ensures { result ≡ readjusts self }
     {
-        if self.level == 0 {
-            return false;
-        }
-        clamp(self.level, self.min, self.max) != self.level
+        self.level != 0 && clamp(self.level, self.min, self.max) != self.level
     }
 
     // A level above 0 is pulled into new limits, and marked where that moves it.
+    #[tactic(auto, unfolding(crate::specs::Levels::readjust))]
     fn readjust_level_into_bounds(self) -> Levels
         ensures { result ≡ readjust self }
     {
-        let level = clamp(self.level, self.min, self.max);
-        let mut next = self;
         if self.readjusts() {
-            next.level = level;
-            next.last = level;
-            next.error = true;
-            return next;
+            let level = clamp(self.level, self.min, self.max);
+            return Levels {
+                level,
+                last: level,
+                error: true,
+                ..self
+            };
         }
-        next
+        self
     }
 
     // The lowest level, not below the floor and not above the highest.
+    #[tactic(auto, unfolding(crate::specs::Levels::set_min_level))]
     pub fn set_min_level(self, floor: u8, asked: u8) -> Levels
         ensures { result ≡ set_min_level self floor asked }
     {
-        let mut next = self;
-        if asked <= floor {
-            next.min = floor;
-            return next.readjust_level_into_bounds();
-        }
-        next.min = min(asked, self.max);
-        next.readjust_level_into_bounds()
+        let min = if asked <= floor {
+            floor
+        } else {
+            asked.min(self.max)
+        };
+        Levels { min, ..self }.readjust_level_into_bounds()
     }
 
     // The highest level, not below the lowest and not the mask.
+    #[tactic(auto, unfolding(crate::specs::Levels::set_max_level))]
     pub fn set_max_level(self, asked: u8) -> Levels
         ensures { result ≡ set_max_level self asked }
     {
-        let mut next = self;
-        if asked <= self.min {
-            next.max = self.min;
-            return next.readjust_level_into_bounds();
-        }
-        next.max = min(asked, Levels::MAX);
-        next.readjust_level_into_bounds()
+        let max = if asked <= self.min {
+            self.min
+        } else {
+            asked.min(Levels::MAX)
+        };
+        Levels { max, ..self }.readjust_level_into_bounds()
     }
 
     // Document 01's fit record, as far as levels go.
+    #[tactic(auto, unfolding(crate::specs::Levels::levels_fit))]
     pub fn fit(self, floor: u8) -> bool
         ensures { result ≡ levels_fit floor self }
     {
-        if self.min < floor {
-            return false;
-        }
-        if self.max < self.min {
-            return false;
-        }
-        if Levels::MAX < self.max {
-            return false;
-        }
-        true
+        floor <= self.min && self.min <= self.max && self.max <= Levels::MAX
     }
 }

@@ -1,3 +1,4 @@
+pub mod Clamped
 pub mod Lists
 pub mod Logic
 pub mod Table

@@ -21,8 +21,9 @@ use Rattle.colour.specs.Staging.{load, load_temporaries_from}
 use Rattle.colour.specs.Tint.{lies_within}
 use Rattle.demands.proofs.Fit.{fit_exactly}
 use Rattle.gear.specs.Command.{command_of}
+use Rattle.std.specs.Prelude.{Option, Some, None}
 use Rattle.gear.specs.declared.command.StandardCommand.{StandardCommand}
-use Rattle.gear.specs.declared.command.StandardCommand.TheVariants.{Arc, GoToScene, Reset, IdentifyDevice, Config, EnableWriteMemory, Unknown}
+use Rattle.gear.specs.declared.command.StandardCommand.TheVariants.{Arc, GoToScene, Reset, IdentifyDevice, Config, EnableWriteMemory}
 use Rattle.gear.specs.declared.profile.Profile.{Profile}
 use Rattle.gear.specs.Marks.{walk_fit}
 use Rattle.gear.specs.Profile.{accepted, floor, is_type, short_fit, unit_fit}
@@ -45,14 +46,14 @@ scene_clean : (p : Profile) (s : ℕ) → RecallsClean (fresh_gear p) s
 unfolding recall with_features fresh_gear fresh
 scene_clean p s = rw (no_scene s)
 
-command_clean : (p : Profile) (k : StandardCommand) → CommandClean (fresh_gear p) k
-command_clean p (GoToScene s) = scene_clean p s
-command_clean p (Arc a) = tt
-command_clean p Reset = tt
-command_clean p IdentifyDevice = tt
-command_clean p (Config k) = tt
-command_clean p EnableWriteMemory = tt
-command_clean p Unknown = tt
+command_clean : (p : Profile) (k : Option StandardCommand) → CommandClean (fresh_gear p) k
+command_clean p (Some (GoToScene s)) = scene_clean p s
+command_clean p (Some (Arc a)) = tt
+command_clean p (Some Reset) = tt
+command_clean p (Some IdentifyDevice) = tt
+command_clean p (Some (Config k)) = tt
+command_clean p (Some EnableWriteMemory) = tt
+command_clean p None = tt
 
 write_clean : (p : Profile) (w : Write) → Clean (fresh_gear p) w
 write_clean p (Standard byte d) = command_clean p (command_of byte)

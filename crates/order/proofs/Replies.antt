@@ -6,6 +6,7 @@ use mathlib.Core.Bool.{false}
 use mathlib.Core.List.Memᴰ
 use mathlib.Core.List.{List, [], ◌∷◌, map}
 use mathlib.Core.Option.{Option, none, some}
+use Rattle.std.specs.declared.result.Result.TheVariants.{Ok}
 use Rattle.order.specs.Carry.{carry, does, store_byte}
 use Rattle.order.specs.Keys.{Disjoint, Keyed, NoSharedKey, command_keys, keys}
 use Rattle.order.specs.Keys.Key.{Bank1}
@@ -26,40 +27,40 @@ use Rattle.calls.specs.Memory.{rebanked, write_memory_call}
 use Rattle.demands.specs.Calls.{perform as perform_call}
 use Rattle.demands.specs.Fit.{Fit}
 use Rattle.demands.proofs.Fit.{fit_exactly}
-use Rattle.gear.specs.Answer.{location_answer}
+use Rattle.gear.specs.Answer.{Answer, location_answer}
 use Rattle.gear.specs.Command.{command_of}
-use Rattle.gear.specs.declared.answer.Answer.{Answer}
-use Rattle.gear.specs.declared.answer.Answer.TheVariants.{Done}
+use Rattle.gear.specs.declared.answer.Reply.TheVariants.{Done}
 use Rattle.gear.specs.declared.answer.Outcome.{Outcome}
+use Rattle.std.specs.Prelude.{Option as RustOption, Some, None}
 use Rattle.gear.specs.declared.command.StandardCommand.{StandardCommand}
-use Rattle.gear.specs.declared.command.StandardCommand.TheVariants.{Arc, GoToScene, Reset, IdentifyDevice, Config, EnableWriteMemory, Unknown}
+use Rattle.gear.specs.declared.command.StandardCommand.TheVariants.{Arc, GoToScene, Reset, IdentifyDevice, Config, EnableWriteMemory}
 use Rattle.gear.specs.declared.record.Gear.{Gear}
 use Rattle.gear.specs.Serve.{serve}
 use Rattle.gear.specs.Write.{apply_standard_write, direct_arc_power, write}
 
 -- what a write answers on a fit record, by the banks alone
 abbrev reply : Write → Banks → Answer
-reply (ArcPower v) b = Done
-reply (Standard byte d) b = Done
-reply (TcStep warmer) b = Done
-reply (XyStep y up) b = Done
-reply (TcLimit v s) b = Done
-reply Activation b = Done
+reply (ArcPower v) b = Ok Done
+reply (Standard byte d) b = Ok Done
+reply (TcStep warmer) b = Ok Done
+reply (XyStep y up) b = Ok Done
+reply (TcLimit v s) b = Ok Done
+reply Activation b = Ok Done
 reply (Memory bank offset v) b = location_answer (write_memory_location b false bank offset v).answer
 
 served : (g : Gear) (o : Outcome) → Fit g → (serve g o).answer ≡ o.answer
 unfolding serve
 served g o f = rw ((fit_exactly g).0 f)
 
-command_done : (g : Gear) (k : StandardCommand) (d : ℕ) → (command_keys k ≡ [] → ⊥) → (write g k d).answer ≡ Done
+command_done : (g : Gear) (k : RustOption StandardCommand) (d : ℕ) → (command_keys k ≡ [] → ⊥) → (write g k d).answer ≡ Ok Done
 unfolding write command_keys
-command_done g (Arc a) d n = refl
-command_done g (GoToScene s) d n = refl
-command_done g Reset d n = refl
-command_done g IdentifyDevice d n = refl
-command_done g (Config k) d n = refl
-command_done g EnableWriteMemory d n = refl
-command_done g Unknown d n = absurd (n refl)
+command_done g (Some (Arc a)) d n = refl
+command_done g (Some (GoToScene s)) d n = refl
+command_done g (Some Reset) d n = refl
+command_done g (Some IdentifyDevice) d n = refl
+command_done g (Some (Config k)) d n = refl
+command_done g (Some EnableWriteMemory) d n = refl
+command_done g None d n = absurd (n refl)
 
 replied : (w : Write) (g : Gear) → Keyed w → Fit g → (perform w g).answer ≡ reply w g.banks
 unfolding perform perform_call call_of keys direct_arc_power apply_standard_write tc_step_call xy_step_call store_tc_limit_call activate_call write_memory_call recoloured rebanked write_memory_location

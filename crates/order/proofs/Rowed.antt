@@ -25,8 +25,9 @@ use Rattle.gear.specs.Command.{command_of}
 use Rattle.gear.specs.declared.answer.Outcome.{Outcome}
 use Rattle.gear.specs.declared.command.ConfigCommand.{ConfigCommand}
 use Rattle.gear.specs.declared.command.ConfigCommand.TheVariants.{SetMaxLevel, SetMinLevel, SetSystemFailureLevel, SetPowerOnLevel, SetFadeTime, SetFadeRate, SetExtendedFadeTime, SetScene, RemoveScene, AddToGroup, RemoveFromGroup}
+use Rattle.std.specs.Prelude.{Option, Some, None as NoWrite}
 use Rattle.gear.specs.declared.command.StandardCommand.{StandardCommand}
-use Rattle.gear.specs.declared.command.StandardCommand.TheVariants.{Arc, GoToScene, Reset, IdentifyDevice, Config, EnableWriteMemory, Unknown}
+use Rattle.gear.specs.declared.command.StandardCommand.TheVariants.{Arc, GoToScene, Reset, IdentifyDevice, Config, EnableWriteMemory}
 use Rattle.gear.specs.declared.marks.Marks.{Marks}
 use Rattle.gear.specs.declared.record.Gear.{Gear}
 use Rattle.gear.specs.declared.settings.LevelSetting.{LevelSetting}
@@ -69,7 +70,7 @@ unfolding arc_write carry
 arc_rowed g a h = λ i.
     with_light g (arc_levels g.levels a) (asked_marked g.marks (keeps_identify a) i) (settles g.colour h.unstaged h.activates i)
 
-scene_rowed : (g : Gear) (s d : ℕ) → Ready g → recall_scene g s ≡ carry (command_row (GoToScene s) d) g
+scene_rowed : (g : Gear) (s d : ℕ) → Ready g → recall_scene g s ≡ carry (command_row (Some (GoToScene s)) d) g
 unfolding recall_scene carry command_row
 scene_rowed g s d h = λ i.
     with_light g (recalled_levels g.levels (scene g s).level) (asked_marked g.marks false i)
@@ -92,15 +93,15 @@ config_rowed g (RemoveScene s) d h = refl
 config_rowed g (AddToGroup n) d h = refl
 config_rowed g (RemoveFromGroup n) d h = refl
 
-command_rowed : (g : Gear) (k : StandardCommand) (d : ℕ) → (command_keys k ≡ [] → ⊥) → Ready g → (write g k d).gear ≡ carry (command_row k d) g
+command_rowed : (g : Gear) (k : Option StandardCommand) (d : ℕ) → (command_keys k ≡ [] → ⊥) → Ready g → (write g k d).gear ≡ carry (command_row k d) g
 unfolding write carry command_row command_keys enable_write enabled
-command_rowed g (Arc a) d n h = arc_rowed g a h
-command_rowed g (GoToScene s) d n h = scene_rowed g s d h
-command_rowed g Reset d n h = absurd (n refl)
-command_rowed g IdentifyDevice d n h = absurd (n refl)
-command_rowed g (Config k) d n h = config_rowed g k d h
-command_rowed g EnableWriteMemory d n h = refl
-command_rowed g Unknown d n h = absurd (n refl)
+command_rowed g (Some (Arc a)) d n h = arc_rowed g a h
+command_rowed g (Some (GoToScene s)) d n h = scene_rowed g s d h
+command_rowed g (Some Reset) d n h = absurd (n refl)
+command_rowed g (Some IdentifyDevice) d n h = absurd (n refl)
+command_rowed g (Some (Config k)) d n h = config_rowed g k d h
+command_rowed g (Some EnableWriteMemory) d n h = refl
+command_rowed g NoWrite d n h = absurd (n refl)
 
 -- ---- calls
 

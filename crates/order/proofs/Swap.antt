@@ -1,6 +1,7 @@
 -- Two rows without a common key, carried out in either order, leave the same record: a line for each part.
 use Prim.Native.Nat.{ℕ}
 use mathlib.Core.Path.{◌≡◌, ◌∙◌, sym, ap}
+use Rattle.std.specs.Prelude.{None}
 use Rattle.order.specs.Keys.{Disjoint}
 use Rattle.order.specs.Keys.Key.{Level, Colour as ColourKey, FadeTime, FadeRate, ExtendedFade, PowerOn, SystemFailure, Bank1}
 use Rattle.order.specs.Carry.{carry, carry_settings, colour_step, does, level_step, marked, read_scene, set_level_of, set_number, settled, store_byte}
@@ -9,7 +10,6 @@ use Rattle.order.proofs.Columns.{Parted, does_swap, group_swap, parted, pick_swa
 use Rattle.colour.specs.declared.record.Colour.{Colour}
 use Rattle.colour.specs.declared.setting.ColourSetting.{ColourSetting}
 use Rattle.gear.specs.declared.marks.Marks.{Marks}
-use Rattle.gear.specs.declared.marks.Walk.TheVariants.{Off}
 use Rattle.gear.specs.declared.record.Gear.{Gear}
 use Rattle.gear.specs.declared.settings.Settings.{Settings}
 use mathlib.Core.Bool.{true, false}
@@ -34,7 +34,7 @@ module _ (r q : Row) (d : Parted r q) (g : Gear) where
       (m : Marks) → marked q.clears q.enables (marked r.clears r.enables m) ≡ marked r.clears r.enables (marked q.clears q.enables m)
   marks_swap m = λ i.
       record {
-        walk = pick_swap r.clears.walk q.clears.walk Off m.walk i;
+        walk = pick_swap r.clears.walk q.clears.walk None m.walk i;
         pair = m.pair;
         reset = pick_swap r.clears.reset q.clears.reset false m.reset i;
         cycled = pick_swap r.clears.cycled q.clears.cycled false m.cycled i;

@@ -9,8 +9,9 @@ use Rattle.order.specs.Writes.Write.{ArcPower, Standard, TcStep, XyStep, TcLimit
 use Rattle.gear.specs.Command.{command_of}
 use Rattle.gear.specs.declared.command.ConfigCommand.{ConfigCommand}
 use Rattle.gear.specs.declared.command.ConfigCommand.TheVariants.{SetMaxLevel, SetMinLevel, SetSystemFailureLevel, SetPowerOnLevel, SetFadeTime, SetFadeRate, SetExtendedFadeTime, SetScene, RemoveScene, AddToGroup, RemoveFromGroup}
+use Rattle.std.specs.Prelude.{Option, Some, None}
 use Rattle.gear.specs.declared.command.StandardCommand.{StandardCommand}
-use Rattle.gear.specs.declared.command.StandardCommand.TheVariants.{Arc, GoToScene, Reset, IdentifyDevice, Config, EnableWriteMemory, Unknown}
+use Rattle.gear.specs.declared.command.StandardCommand.TheVariants.{Arc, GoToScene, Reset, IdentifyDevice, Config, EnableWriteMemory}
 
 config_tied : (k : ConfigCommand) (d : ℕ) → config_keys k ≡ joined (columns (config_row k d))
 unfolding config_keys config_row
@@ -26,15 +27,15 @@ config_tied (RemoveScene s) d = refl
 config_tied (AddToGroup n) d = refl
 config_tied (RemoveFromGroup n) d = refl
 
-command_tied : (k : StandardCommand) (d : ℕ) → command_keys k ≡ joined (columns (command_row k d))
+command_tied : (k : Option StandardCommand) (d : ℕ) → command_keys k ≡ joined (columns (command_row k d))
 unfolding command_keys command_row
-command_tied (Arc a) d = refl
-command_tied (GoToScene s) d = refl
-command_tied (Config k) d = config_tied k d
-command_tied EnableWriteMemory d = refl
-command_tied Reset d = refl
-command_tied IdentifyDevice d = refl
-command_tied Unknown d = refl
+command_tied (Some (Arc a)) d = refl
+command_tied (Some (GoToScene s)) d = refl
+command_tied (Some (Config k)) d = config_tied k d
+command_tied (Some EnableWriteMemory) d = refl
+command_tied (Some Reset) d = refl
+command_tied (Some IdentifyDevice) d = refl
+command_tied None d = refl
 
 pub tied : (w : Write) → keys w ≡ joined (columns (row w))
 unfolding keys row

@@ -1,5 +1,5 @@
 -- A row carried out, part by part.
-use Rattle.std.specs.Prelude.{ℕ, Bool, true, false, List, eqb}
+use Rattle.std.specs.Prelude.{ℕ, Bool, true, false, List, eqb, None}
 use Rattle.std.proofs.Math.Option.{Option, none, some}
 use Rattle.order.specs.Rows.{BankStep, Clears, ColourStep, GroupSlot, LevelStep, Row, SceneSlot, SceneStep}
 use Rattle.order.specs.Rows.BankStep.{Store}
@@ -17,7 +17,6 @@ use Rattle.colour.specs.Staging.{load_temporaries_from, with_pending}
 use Rattle.colour.specs.Steps.{store_tc_limit, tc_step, xy_step}
 use Rattle.colour.specs.Tint.{unstaged}
 use Rattle.gear.specs.declared.marks.Marks.{Marks}
-use Rattle.gear.specs.declared.marks.Walk.TheVariants.{Off}
 use Rattle.gear.specs.declared.profile.Unit.{Unit as Profile}
 use Rattle.gear.specs.declared.record.Gear.{Gear}
 use Rattle.gear.specs.declared.settings.LevelSetting.{LevelSetting}
@@ -86,7 +85,7 @@ set_number d n = d
 abbrev pub marked : Clears → Bool → Marks → Marks
 marked k enables m =
     record {
-      walk = pick k.walk Off m.walk;
+      walk = pick k.walk None m.walk;
       pair = m.pair;
       reset = pick k.reset false m.reset;
       cycled = pick k.cycled false m.cycled;

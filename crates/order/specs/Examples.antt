@@ -1,9 +1,8 @@
 -- Records for examples, each one that calls lead to.
-use Rattle.std.specs.Prelude.{ℕ, true, false, ◌∷◌, replicate}
+use Rattle.std.specs.Prelude.{ℕ, true, false, ◌∷◌, replicate, None}
 use Rattle.calls.specs.Colours.{activate_call, set_features_call, stage_call}
 use Rattle.colour.specs.declared.setting.ColourSetting.{ColourSetting}
 use Rattle.gear.specs.declared.profile.Profile.{Profile}
-use Rattle.gear.specs.declared.profile.Short.TheVariants.{Missing}
 use Rattle.gear.specs.declared.record.Gear.{Gear}
 use Rattle.gear.specs.Record.{fresh_gear}
 use Rattle.gear.specs.Write.{apply_standard_write}
@@ -14,7 +13,7 @@ profile =
     record {
       unit =
           record {
-            short = Missing;
+            short = None;
             random = 0;
             types = 6 ∷ 8 ∷ replicate 14 0;
             count = 2;

@@ -1,5 +1,5 @@
 -- Document 01's keys: what each write owns. Writes without a common key may be sent in any order.
-use Rattle.std.specs.Prelude.{ℕ, ◌≡◌}
+use Rattle.std.specs.Prelude.{ℕ, ◌≡◌, Option, Some, None}
 use mathlib.Core.List.{List, [], ◌∷◌, Memᴰ}
 use Rattle.order.specs.Writes.{Write, Sized}
 use Rattle.order.specs.Writes.Write.{ArcPower, Standard, TcStep, XyStep, TcLimit, Activation, Memory}
@@ -7,7 +7,7 @@ use Rattle.gear.specs.Command.{command_of}
 use Rattle.gear.specs.declared.command.ConfigCommand.{ConfigCommand}
 use Rattle.gear.specs.declared.command.ConfigCommand.TheVariants.{SetMaxLevel, SetMinLevel, SetSystemFailureLevel, SetPowerOnLevel, SetFadeTime, SetFadeRate, SetExtendedFadeTime, SetScene, RemoveScene, AddToGroup, RemoveFromGroup}
 use Rattle.gear.specs.declared.command.StandardCommand.{StandardCommand}
-use Rattle.gear.specs.declared.command.StandardCommand.TheVariants.{Arc, GoToScene, Reset, IdentifyDevice, Config, EnableWriteMemory, Unknown}
+use Rattle.gear.specs.declared.command.StandardCommand.TheVariants.{Arc, GoToScene, Reset, IdentifyDevice, Config, EnableWriteMemory}
 
 pub data Key : Type 0 where
   Level Colour FadeTime FadeRate ExtendedFade PowerOn SystemFailure WriteEnable Bank1 : Key
@@ -26,14 +26,14 @@ config_keys (RemoveScene s) = Scene s ∷ []
 config_keys (AddToGroup n) = Group n ∷ []
 config_keys (RemoveFromGroup n) = Group n ∷ []
 
-unfoldable pub command_keys : StandardCommand → List Key
-command_keys (Arc a) = Level ∷ []
-command_keys (GoToScene s) = Level ∷ Colour ∷ Scene s ∷ []
-command_keys (Config k) = config_keys k
-command_keys EnableWriteMemory = WriteEnable ∷ []
-command_keys Reset = []
-command_keys IdentifyDevice = []
-command_keys Unknown = []
+unfoldable pub command_keys : Option StandardCommand → List Key
+command_keys (Some (Arc a)) = Level ∷ []
+command_keys (Some (GoToScene s)) = Level ∷ Colour ∷ Scene s ∷ []
+command_keys (Some (Config k)) = config_keys k
+command_keys (Some EnableWriteMemory) = WriteEnable ∷ []
+command_keys (Some Reset) = []
+command_keys (Some IdentifyDevice) = []
+command_keys None = []
 
 -- a memory write has bank 1's key whatever its bank
 unfoldable pub keys : Write → List Key

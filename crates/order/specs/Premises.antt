@@ -1,5 +1,5 @@
 -- What must hold of the record and of the list, in two strengths: the one that the proof needs, and document 01's words.
-use Rattle.std.specs.Prelude.{ℕ, ◌≡◌, true, List}
+use Rattle.std.specs.Prelude.{ℕ, ◌≡◌, true, List, Option, Some, None as NoWrite}
 use Rattle.order.specs.Keys.{Keyed, NoSharedKey}
 use Rattle.order.specs.Lists.{All, Apart}
 use Rattle.order.specs.Writes.{Write}
@@ -11,7 +11,7 @@ use Rattle.colour.specs.Tint.{dark}
 use Rattle.demands.specs.Fit.{Fit}
 use Rattle.gear.specs.Command.{command_of}
 use Rattle.gear.specs.declared.command.StandardCommand.{StandardCommand}
-use Rattle.gear.specs.declared.command.StandardCommand.TheVariants.{Arc, GoToScene, Reset, IdentifyDevice, Config, EnableWriteMemory, Unknown}
+use Rattle.gear.specs.declared.command.StandardCommand.TheVariants.{Arc, GoToScene, Reset, IdentifyDevice, Config, EnableWriteMemory}
 use Rattle.gear.specs.declared.record.Gear.{Gear}
 use Rattle.gear.specs.Write.{scene}
 
@@ -39,14 +39,14 @@ abbrev pub RecallsClean : Gear → ℕ → Type 0
 RecallsClean g s = (recall (with_features g.colour 1) (scene g s).colour).pending ≡ dark 0xFF
 
 -- asked of GoToScene alone
-abbrev pub CommandClean : Gear → StandardCommand → Type 0
-CommandClean g (GoToScene s) = RecallsClean g s
-CommandClean g (Arc a) = Unit {0}
-CommandClean g Reset = Unit {0}
-CommandClean g IdentifyDevice = Unit {0}
-CommandClean g (Config k) = Unit {0}
-CommandClean g EnableWriteMemory = Unit {0}
-CommandClean g Unknown = Unit {0}
+abbrev pub CommandClean : Gear → Option StandardCommand → Type 0
+CommandClean g (Some (GoToScene s)) = RecallsClean g s
+CommandClean g (Some (Arc a)) = Unit {0}
+CommandClean g (Some Reset) = Unit {0}
+CommandClean g (Some IdentifyDevice) = Unit {0}
+CommandClean g (Some (Config k)) = Unit {0}
+CommandClean g (Some EnableWriteMemory) = Unit {0}
+CommandClean g NoWrite = Unit {0}
 
 abbrev pub Clean : Gear → Write → Type 0
 Clean g (Standard byte dtr0) = CommandClean g (command_of byte)

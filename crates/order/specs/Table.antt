@@ -1,5 +1,5 @@
 -- The table: the row of each write.
-use Rattle.std.specs.Prelude.{ℕ, Bool, true, false, not}
+use Rattle.std.specs.Prelude.{ℕ, Bool, true, false, not, Option as RustOption, Some, None}
 use Rattle.std.proofs.Math.Option.{Option, none, some}
 use Rattle.order.specs.Rows.{Row, Clears, LevelStep, ColourStep, SceneSlot, GroupSlot, BankStep}
 use Rattle.order.specs.Rows.BankStep.{Store}
@@ -14,7 +14,7 @@ use Rattle.gear.specs.Command.{command_of}
 use Rattle.gear.specs.declared.command.ConfigCommand.{ConfigCommand}
 use Rattle.gear.specs.declared.command.ConfigCommand.TheVariants.{SetMaxLevel, SetMinLevel, SetSystemFailureLevel, SetPowerOnLevel, SetFadeTime, SetFadeRate, SetExtendedFadeTime, SetScene, RemoveScene, AddToGroup, RemoveFromGroup}
 use Rattle.gear.specs.declared.command.StandardCommand.{StandardCommand}
-use Rattle.gear.specs.declared.command.StandardCommand.TheVariants.{Arc, GoToScene, Reset, IdentifyDevice, Config, EnableWriteMemory, Unknown}
+use Rattle.gear.specs.declared.command.StandardCommand.TheVariants.{Arc, GoToScene, Reset, IdentifyDevice, Config, EnableWriteMemory}
 use Rattle.gear.specs.Write.{extended_fade, keeps_identify}
 use Rattle.level.specs.declared.arc.ArcCommand.{ArcCommand}
 use Rattle.level.specs.declared.arc.ArcCommand.TheVariants.{DirectArcPower}
@@ -111,14 +111,14 @@ config_row (AddToGroup n) d = store_row none none none none none (Member n true)
 config_row (RemoveFromGroup n) d = store_row none none none none none (Member n false)
 
 -- the commands without keys have no row of their own
-unfoldable pub command_row : StandardCommand → ℕ → Row
-command_row (Arc a) d = arc_row a
-command_row (GoToScene s) d = light_row (some SceneLevel) (some SceneColour) (At s none) false (asking false)
-command_row (Config k) d = config_row k d
-command_row EnableWriteMemory d = memory_row true none enabling
-command_row Reset d = memory_row false none nothing
-command_row IdentifyDevice d = memory_row false none nothing
-command_row Unknown d = memory_row false none nothing
+unfoldable pub command_row : RustOption StandardCommand → ℕ → Row
+command_row (Some (Arc a)) d = arc_row a
+command_row (Some (GoToScene s)) d = light_row (some SceneLevel) (some SceneColour) (At s none) false (asking false)
+command_row (Some (Config k)) d = config_row k d
+command_row (Some EnableWriteMemory) d = memory_row true none enabling
+command_row (Some Reset) d = memory_row false none nothing
+command_row (Some IdentifyDevice) d = memory_row false none nothing
+command_row None d = memory_row false none nothing
 
 unfoldable pub row : Write → Row
 row (ArcPower level) = arc_row (DirectArcPower level)

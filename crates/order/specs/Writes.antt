@@ -1,9 +1,9 @@
 -- The writes that document 01 gives keys to, and what each does: the rule of its call, to which the call is proved equal.
 use Rattle.std.specs.Prelude.{ℕ, ◌<◌, Bool, List, [], ◌∷◌}
-use Rattle.gear.specs.declared.answer.Answer.{Answer}
 use Rattle.demands.specs.Calls.{Call, perform as perform_call}
 use Rattle.gear.specs.declared.answer.Outcome.{Outcome}
 use Rattle.gear.specs.declared.record.Gear.{Gear}
+use Rattle.gear.specs.Answer.{Answer}
 
 pub data Write : Type 0 where
   ArcPower : (level : ℕ) → Write

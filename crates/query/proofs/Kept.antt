@@ -5,12 +5,11 @@ use mathlib.Core.Bool.{true, false}
 use lib.Dec.{eqb, leb}
 use native.Mathlib.Omega.{arith}
 use borrow.Author.Tests.{le-leb, leb-false}
+use Rattle.std.specs.Prelude.{Option, None, Some}
 use Rattle.query.specs.Reply.{is_query, query, gear_query_reply, heard_query, reported, report_for}
 use Rattle.query.specs.Walk.{walking, device_type, next_at, next, next_device_type}
 use Rattle.colour.proofs.Fit as ColourFit
 use Rattle.colour.proofs.Kept as ColourKept
-use Rattle.gear.specs.declared.marks.Walk.{Walk}
-use Rattle.gear.specs.declared.marks.Walk.TheVariants.{Off, At}
 use Rattle.gear.specs.declared.record.Gear.{Gear}
 use Rattle.gear.specs.Marks.{walk_fit}
 use Rattle.gear.specs.Parts.{written}
@@ -22,35 +21,35 @@ use Rattle.gear.proofs.Fit.{GearFit, count_most}
 use Rattle.gear.proofs.Kept.{serve_kept}
 use Rattle.numbers.proofs.Logic.{by_cases}
 
-pub walking_kept : (g : Gear) (w : Walk) → walk_fit w ≡ true → GearFit g → GearFit (walking g w)
+pub walking_kept : (g : Gear) (w : Option ℕ) → walk_fit w ≡ true → GearFit g → GearFit (walking g w)
 walking_kept g w e f = record { unit = f.unit; levels = f.levels; colour = f.colour; walk = e }
 
 device_type_kept : (g : Gear) → GearFit g → GearFit (device_type g).gear
 unfolding device_type walk_fit
 device_type_kept g f =
-    by_cases (eqb g.unit.count 0) (λ e. rw e (walking_kept g Off refl f))
+    by_cases (eqb g.unit.count 0) (λ e. rw e (walking_kept g None refl f))
     (λ e.
-    by_cases (eqb g.unit.count 1) (λ t. rw (e, t) (walking_kept g Off refl f)) (λ t. rw (e, t) (walking_kept g (At 0) refl f)))
+    by_cases (eqb g.unit.count 1) (λ t. rw (e, t) (walking_kept g None refl f)) (λ t. rw (e, t) (walking_kept g (Some 0) refl f)))
 
-pub at_most : (n : ℕ) → n ≤ 16 → walk_fit (At n) ≡ true
+pub at_most : (n : ℕ) → n ≤ 16 → walk_fit (Some n) ≡ true
 unfolding walk_fit
 at_most n h = le-leb n 16 h
 
 next_at_kept : (g : Gear) (n : ℕ) → GearFit g → GearFit (next_at g n).gear
 unfolding next_at
 next_at_kept g n f =
-    by_cases (leb g.unit.count n) (λ e. rw e f) (λ e. rw e (walking_kept g (At (n + 1)) (within e) f))
+    by_cases (leb g.unit.count n) (λ e. rw e f) (λ e. rw e (walking_kept g (Some (n + 1)) (within e) f))
   where
-    within : leb g.unit.count n ≡ false → walk_fit (At (n + 1)) ≡ true
+    within : leb g.unit.count n ≡ false → walk_fit (Some (n + 1)) ≡ true
     within e =
         let h = leb-false g.unit.count n e in
         let m = count_most 16 g.unit f.unit in
         at_most (n + 1) (omega arith)
 
-next_kept : (g : Gear) (w : Walk) → GearFit g → GearFit (next g w).gear
+next_kept : (g : Gear) (w : Option ℕ) → GearFit g → GearFit (next g w).gear
 unfolding next
-next_kept g Off f = f
-next_kept g (At n) f = next_at_kept g n f
+next_kept g None f = f
+next_kept g (Some n) f = next_at_kept g n f
 
 -- ---- reports
 
@@ -92,10 +91,10 @@ device_type_left : (g : Gear) → written (device_type g).gear ≡ written g
 unfolding device_type
 device_type_left g = by_cases (eqb g.unit.count 0) (λ e. rw e) (λ e. by_cases (eqb g.unit.count 1) (λ t. rw (e, t)) (λ t. rw (e, t)))
 
-next_left : (g : Gear) (w : Walk) → written (next g w).gear ≡ written g
+next_left : (g : Gear) (w : Option ℕ) → written (next g w).gear ≡ written g
 unfolding next next_at
-next_left g Off = refl
-next_left g (At n) = by_cases (leb g.unit.count n) (λ e. rw e) (λ e. rw e)
+next_left g None = refl
+next_left g (Some n) = by_cases (leb g.unit.count n) (λ e. rw e) (λ e. rw e)
 
 query_left : (g : Gear) (b : ℕ) → written (query g b).gear ≡ written g
 unfolding query next_device_type heard_query

@@ -5,12 +5,11 @@ use mathlib.Core.Bool.{true, false}
 use lib.Dec.{eqb, leb}
 use native.Mathlib.Omega.{arith}
 use borrow.Author.Tests.{eqb-true, eqb-false, le-leb, lt-leb}
+use Rattle.std.specs.Prelude.{Option, None, Some}
 use Rattle.query.specs.Heard.{begun, moved_on, stepped, walked, tells_level, reports, shown}
 use Rattle.query.specs.Reply.{is_setting_query, is_query, query, heard_query, reported, report_for, seen, told}
 use Rattle.query.specs.Walk.{device_type, next_at, next, next_device_type, type_answer, answer_at, next_type_answer}
 use Rattle.colour.specs.Report.{report_from, report_from_actual}
-use Rattle.gear.specs.declared.marks.Walk.{Walk}
-use Rattle.gear.specs.declared.marks.Walk.TheVariants.{Off, At}
 use Rattle.gear.specs.declared.record.Gear.{Gear}
 use Rattle.gear.specs.Parts.{with_light}
 use Rattle.gear.specs.Profile.{is_type}
@@ -66,10 +65,10 @@ first_walks g =
     (λ t. let n = eqb-true g.unit.count 1 t in simp (e, t, le-leb g.unit.count 1 (omega arith)))
     (λ t. let n = eqb-false g.unit.count 1 t in simp (e, t, lt-leb g.unit.count 1 (omega arith))))
 
-next_walks : (g : Gear) (w : Walk) → (next g w).gear ≡ with_light g g.levels (stepped g.unit.count g.marks w) g.colour
+next_walks : (g : Gear) (w : Option ℕ) → (next g w).gear ≡ with_light g g.levels (stepped g.unit.count g.marks w) g.colour
 unfolding next next_at stepped moved_on
-next_walks g Off = refl
-next_walks g (At n) = by_cases (leb g.unit.count n) (λ e. simp e) (λ e. simp e)
+next_walks g None = refl
+next_walks g (Some n) = by_cases (leb g.unit.count n) (λ e. simp e) (λ e. simp e)
 
 at_153 : (g : Gear) → (query g 153).gear ≡ with_light g g.levels (walked g.unit g.marks 153) (reported g 153)
 unfolding query tells_level
@@ -95,10 +94,10 @@ type_answers g =
     by_cases (eqb g.unit.count 0) (λ e. simp e)
     (λ e. by_cases (eqb g.unit.count 1) (λ t. simp (e, t)) (λ t. simp (e, t)))
 
-next_answers : (g : Gear) (w : Walk) → (next g w).answer ≡ next_type_answer g.unit w
+next_answers : (g : Gear) (w : Option ℕ) → (next g w).answer ≡ next_type_answer g.unit w
 unfolding next next_at next_type_answer answer_at
-next_answers g Off = refl
-next_answers g (At n) = by_cases (leb g.unit.count n) (λ e. simp e) (λ e. simp e)
+next_answers g None = refl
+next_answers g (Some n) = by_cases (leb g.unit.count n) (λ e. simp e) (λ e. simp e)
 
 pub query_tells : (g : Gear) (b : ℕ) → (query g b).answer ≡ told (seen g b) b
 unfolding query next_device_type told

@@ -1,35 +1,33 @@
 -- What a query changes: the walk through the type list, and the colour report.
-use Rattle.std.specs.Prelude.{ℕ, ◌+◌, ◌/◌, Bool, true, eqb, leb}
+use Rattle.std.specs.Prelude.{ℕ, ◌+◌, ◌/◌, Bool, true, eqb, leb, Option, None, Some}
 use Rattle.query.specs.Reply.{is_query}
 use Rattle.colour.specs.declared.setting.ColourSetting.{ColourSetting}
 use Rattle.colour.specs.declared.tint.Tint.{Tint}
 use Rattle.colour.specs.Tint.{captured}
 use Rattle.gear.specs.declared.marks.Marks.{Marks}
-use Rattle.gear.specs.declared.marks.Walk.{Walk}
-use Rattle.gear.specs.declared.marks.Walk.TheVariants.{Off, At}
 use Rattle.gear.specs.declared.profile.Unit.{Unit}
 use Rattle.gear.specs.Marks.{with_walk}
 use Rattle.gear.specs.Profile.{is_type}
 use Rattle.numbers.specs.Numbers.{both, pick}
 
 -- query 153: more than one type starts the walk
-unfoldable pub begun : ℕ → Walk
-begun count = pick (leb count 1) Off (At 0)
+unfoldable pub begun : ℕ → Option ℕ
+begun count = pick (leb count 1) None (Some 0)
 
 -- one place on, until past the last type
 unfoldable pub moved_on : ℕ → Marks → ℕ → Marks
-moved_on count m at = pick (leb count at) m (with_walk m (At (at + 1)))
+moved_on count m at = pick (leb count at) m (with_walk m (Some (at + 1)))
 
 -- query 167: only a walk that is on goes on
-unfoldable pub stepped : ℕ → Marks → Walk → Marks
-stepped count m Off = m
-stepped count m (At n) = moved_on count m n
+unfoldable pub stepped : ℕ → Marks → Option ℕ → Marks
+stepped count m None = m
+stepped count m (Some n) = moved_on count m n
 
 -- any other query ends the walk
 unfoldable pub walked : Unit → Marks → ℕ → Marks
 walked u m b =
     pick (eqb b 153) (with_walk m (begun u.count))
-    (pick (eqb b 167) (stepped u.count m m.walk) (pick (is_query b) (with_walk m Off) m))
+    (pick (eqb b 167) (stepped u.count m m.walk) (pick (is_query b) (with_walk m None) m))
 
 -- 160 actual level, 163 power-on, 164 system failure, 176 to 191 scenes
 unfoldable pub tells_level : ℕ → Bool

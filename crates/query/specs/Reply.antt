@@ -1,5 +1,5 @@
 -- The queries by their bytes (document 01, 'Command bytes').
-use Rattle.std.specs.Prelude.{ℕ, ◌+◌, ◌*◌, ◌/◌, ◌%◌, Bool, true, false, eqb, leb}
+use Rattle.std.specs.Prelude.{ℕ, ◌+◌, ◌*◌, ◌/◌, ◌%◌, Bool, true, false, eqb, leb, Ok, Err, None}
 use Rattle.query.specs.Bits.{eight}
 use Rattle.query.specs.Lamp.{lamp_on, actual_level}
 use Rattle.query.specs.Status.{missing, status_byte}
@@ -7,12 +7,10 @@ use Rattle.query.specs.Walk.{device_type, next_device_type, type_answer, next_ty
 use Rattle.query.specs.declared.told.Seen.{Seen}
 use Rattle.colour.specs.declared.record.Colour.{Colour}
 use Rattle.colour.specs.Report.{report_from, report_from_actual}
-use Rattle.gear.specs.Answer.{refused}
-use Rattle.gear.specs.declared.answer.Answer.{Answer}
-use Rattle.gear.specs.declared.answer.Answer.TheVariants.{Value, Nothing, Refused}
+use Rattle.gear.specs.Answer.{Answer, refused}
+use Rattle.gear.specs.declared.answer.Reply.TheVariants.{Value, Nothing}
 use Rattle.gear.specs.declared.answer.Outcome.{Outcome}
 use Rattle.gear.specs.declared.answer.Refusal.TheVariants.{Byte}
-use Rattle.gear.specs.declared.marks.Walk.TheVariants.{Off}
 use Rattle.gear.specs.declared.record.Gear.{Gear}
 use Rattle.gear.specs.Marks.{with_walk}
 use Rattle.gear.specs.Parts.{with_light}
@@ -37,7 +35,7 @@ is_query b =
 
 -- yes is 255, no is no answer
 unfoldable pub yes : Bool → Answer
-yes b = pick b (Value 255) Nothing
+yes b = pick b (Ok (Value 255)) (Ok Nothing)
 
 -- ## What is told, from the parts of the record that queries tell of
 
@@ -45,17 +43,17 @@ yes b = pick b (Value 255) Nothing
 -- 154 physical minimum, 155 power failure, 158 operating mode, 159 light source
 unfoldable pub status_reply : Seen → ℕ → Answer
 status_reply s low =
-    pick (eqb low 0) (Value (status_byte s.unit s.levels s.marks s.lamp s.faults))
-    (pick (eqb low 1) (Value 255)
+    pick (eqb low 0) (Ok (Value (status_byte s.unit s.levels s.marks s.lamp s.faults)))
+    (pick (eqb low 1) (Ok (Value 255))
     (pick (eqb low 2) (yes s.lamp.failure)
     (pick (eqb low 3) (yes (lamp_on s.unit s.levels s.lamp s.faults))
     (pick (eqb low 4) (yes s.levels.error)
     (pick (eqb low 5) (yes s.marks.reset)
     (pick (eqb low 6) (yes (missing s.unit.short))
-    (pick (eqb low 7) (Value 8)
-    (pick (eqb low 10) (Value s.unit.minimum)
+    (pick (eqb low 7) (Ok (Value 8))
+    (pick (eqb low 10) (Ok (Value s.unit.minimum))
     (pick (eqb low 11) (yes s.marks.cycled)
-    (pick (eqb low 14) (Value 0) (pick (eqb low 15) (Value 6) Nothing)))))))))))
+    (pick (eqb low 14) (Ok (Value 0)) (pick (eqb low 15) (Ok (Value 6)) (Ok Nothing))))))))))))
 
 -- the low half of each
 unfoldable pub packed_fades : ℕ → ℕ → ℕ
@@ -69,33 +67,33 @@ gear_failure s = eqb (status_byte s.unit s.levels s.marks s.lamp s.faults % 2) 1
 -- fade, 170 gear failure
 unfoldable pub setting_reply : Seen → ℕ → Answer
 setting_reply s low =
-    pick (eqb low 0) (Value (actual_level s.unit s.levels s.faults s.active))
-    (pick (eqb low 1) (Value s.levels.max)
-    (pick (eqb low 2) (Value s.levels.min)
-    (pick (eqb low 3) (Value s.on)
-    (pick (eqb low 4) (Value s.failure)
-    (pick (eqb low 5) (Value (packed_fades s.fades.time s.fades.rate))
-    (pick (eqb low 8) (Value s.fades.extended) (pick (eqb low 10) (yes (gear_failure s)) Nothing)))))))
+    pick (eqb low 0) (Ok (Value (actual_level s.unit s.levels s.faults s.active)))
+    (pick (eqb low 1) (Ok (Value s.levels.max))
+    (pick (eqb low 2) (Ok (Value s.levels.min))
+    (pick (eqb low 3) (Ok (Value s.on))
+    (pick (eqb low 4) (Ok (Value s.failure))
+    (pick (eqb low 5) (Ok (Value (packed_fades s.fades.time s.fades.rate)))
+    (pick (eqb low 8) (Ok (Value s.fades.extended)) (pick (eqb low 10) (yes (gear_failure s)) (Ok Nothing))))))))
 
 -- 192 and 193 groups, 194 to 196 random address
 unfoldable pub identity_reply : Seen → ℕ → Answer
 identity_reply s low =
-    pick (eqb low 0) (Value (eight s.groups 0))
-    (pick (eqb low 1) (Value (eight s.groups 8))
-    (pick (eqb low 2) (Value (s.unit.random / 65536 % 256))
-    (pick (eqb low 3) (Value (s.unit.random / 256 % 256)) (pick (eqb low 4) (Value (s.unit.random % 256)) Nothing))))
+    pick (eqb low 0) (Ok (Value (eight s.groups 0)))
+    (pick (eqb low 1) (Ok (Value (eight s.groups 8)))
+    (pick (eqb low 2) (Ok (Value (s.unit.random / 65536 % 256)))
+    (pick (eqb low 3) (Ok (Value (s.unit.random / 256 % 256))) (pick (eqb low 4) (Ok (Value (s.unit.random % 256))) (Ok Nothing)))))
 
 unfoldable pub reply : Seen → ℕ → Answer
 reply s b =
     pick (eqb (b / 16) 9) (status_reply s (b % 16))
     (pick (eqb (b / 16) 10) (setting_reply s (b % 16))
-    (pick (eqb (b / 16) 11) (Value s.scene) (pick (eqb (b / 16) 12) (identity_reply s (b % 16)) Nothing)))
+    (pick (eqb (b / 16) 11) (Ok (Value s.scene)) (pick (eqb (b / 16) 12) (identity_reply s (b % 16)) (Ok Nothing))))
 
 -- 153 and 167 are the walk
 unfoldable pub told : Seen → ℕ → Answer
 told s b =
     pick (eqb b 153) (type_answer s.unit)
-    (pick (eqb b 167) (next_type_answer s.unit s.marks.walk) (pick (is_query b) (reply s b) (Refused Byte)))
+    (pick (eqb b 167) (next_type_answer s.unit s.marks.walk) (pick (is_query b) (reply s b) (Err Byte)))
 
 -- ## The query
 
@@ -133,7 +131,7 @@ unfoldable pub reported : Gear → ℕ → Colour
 reported g b = pick (is_type g.unit 8) (report_for g b) g.colour
 
 unfoldable pub heard_query : Gear → ℕ → Gear
-heard_query g b = with_light g g.levels (with_walk g.marks Off) (reported g b)
+heard_query g b = with_light g g.levels (with_walk g.marks None) (reported g b)
 
 -- 153 and 167 are the walk; any other query ends it
 unfoldable pub query : Gear → ℕ → Outcome

@@ -1,20 +1,18 @@
 -- The status byte (part 102, 9.16; document 01).
-use Rattle.std.specs.Prelude.{ℕ, Bool, true, false}
+use Rattle.std.specs.Prelude.{ℕ, Bool, true, false, Option, None, Some}
 use Rattle.std.specs.Int.Bits.{bit_or}
 use Rattle.query.specs.Bits.{weight}
 use Rattle.query.specs.Lamp.{lamp_failure_from207, lamp_on}
 use Rattle.gear.specs.declared.marks.Marks.{Marks}
-use Rattle.gear.specs.declared.profile.Short.{Short}
-use Rattle.gear.specs.declared.profile.Short.TheVariants.{Missing, Address}
 use Rattle.gear.specs.declared.profile.Unit.{Unit}
 use Rattle.gear.specs.declared.condition.Faults.{Faults}
 use Rattle.gear.specs.declared.condition.Lamp.{Lamp}
 use Rattle.level.specs.declared.levels.Levels.{Levels}
 use Rattle.numbers.specs.Numbers.{pick}
 
-unfoldable pub missing : Short → Bool
-missing Missing = true
-missing (Address a) = false
+unfoldable pub missing : Option ℕ → Bool
+missing None = true
+missing (Some a) = false
 
 -- the mark, or a part 207 fault
 unfoldable pub lamp_failing : Unit → Lamp → Faults → Bool

@@ -1,48 +1,34 @@
 // Bits of bytes, and bytes of bits.
-ghost use Rattle.std.specs.Prelude.{◌≡◌, ◌≤◌};
+ghost use Rattle.std.specs.Prelude.{◌≡◌, ◌≤◌, ◌<◌};
 ghost use Rattle.numbers.specs.Numbers.{pick};
 ghost use Rattle.query.specs.Bits.{bit, weight, nibble, eight};
 
-// Bit 5 of a byte, and bit 6: the two thermal ones of part 207.
-pub(crate) fn bit_5(byte: u8) -> bool
-    ensures { result ≡ bit byte 32 }
+// The bit of a weight.
+pub(crate) fn bit(byte: u8, weight: u8) -> bool
+    requires { 0 < weight }
+    ensures { result ≡ bit byte weight }
 {
-    byte / 32 % 2 == 1
-}
-
-pub(crate) fn bit_6(byte: u8) -> bool
-    ensures { result ≡ bit byte 64 }
-{
-    byte / 64 % 2 == 1
+    byte / weight % 2 == 1
 }
 
 // A bit's weight where it is set.
+#[tactic(auto, unfolding(crate::specs::Bits::weight))]
 pub(crate) fn weight(set: bool, value: u8) -> u8
     ensures { result ≡ weight set value }
 {
-    if set {
-        return value;
-    }
-    0
+    if set { value } else { 0 }
 }
 
-fn one(set: bool) -> u8
-    ensures { (result ≡ weight set 1) × (result ≤ 1) }
-{
-    if set {
-        return 1;
-    }
-    0
-}
-
+#[tactic(auto, unfolding(crate::specs::Bits::nibble, crate::specs::Bits::weight))]
 fn nibble(a: bool, b: bool, c: bool, d: bool) -> u8
-    ensures { (result ≡ nibble a b c d) × (result ≤ 15) }
+    ensures sum { result ≡ nibble a b c d }
+    ensures low { result ≤ 15 }
 {
-    let low = one(a) + 2 * one(b);
-    low + 4 * one(c) + 8 * one(d)
+    u8::from(a) + 2 * u8::from(b) + 4 * u8::from(c) + 8 * u8::from(d)
 }
 
 // Eight marks as a byte, the first the lowest bit; the other eight where `high`.
+#[tactic(auto, unfolding(crate::specs::Bits::eight))]
 pub fn eight(marks: [bool; 16], high: bool) -> u8
     ensures { result ≡ eight marks (pick high 8 0) }
 {

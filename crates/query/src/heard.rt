@@ -5,79 +5,70 @@ ghost use Rattle.query.specs.Heard.{begun, moved_on, stepped, walked, tells_leve
 use crate::told::is_query;
 use colour::setting::ColourSetting;
 use colour::tint::Tint;
-use gear::marks::{Marks, Walk};
+use gear::marks::Marks;
 use gear::profile::Unit;
 
 // Query 153: a walk begins where there is more than one type.
-fn begun(count: u8) -> Walk
+#[tactic(auto, unfolding(crate::specs::Heard::begun))]
+fn begun(count: u8) -> Option<u8>
     ensures { result ≡ begun count }
 {
-    if count <= 1 {
-        return Walk::Off;
-    }
-    Walk::At(0)
+    (1 < count).then_some(0)
 }
 
 // One place on, until past the last type.
+#[tactic(auto, unfolding(crate::specs::Heard::moved_on))]
 fn moved_on(count: u8, marks: Marks, at: u8) -> Marks
     ensures { result ≡ moved_on count marks at }
 {
     if count <= at {
         return marks;
     }
-    marks.with_walk(Walk::At(at + 1))
+    marks.with_walk(Some(at + 1))
 }
 
 // Query 167: only a walk that is on goes on.
+#[tactic(auto, unfolding(crate::specs::Heard::stepped))]
 fn stepped(count: u8, marks: Marks) -> Marks
     ensures { result ≡ stepped count marks marks.walk }
 {
-    let walk = marks.walk;
-    match walk {
-        Walk::Off => marks,
-        Walk::At(at) => moved_on(count, marks, at),
+    match marks.walk {
+        None => marks,
+        Some(at) => moved_on(count, marks, at),
     }
 }
 
 // Every query but the two of the walk ends the walk.
+#[tactic(auto, unfolding(crate::specs::Heard::walked))]
 pub fn walked(unit: Unit, marks: Marks, byte: u8) -> Marks
     ensures { result ≡ walked unit marks byte }
 {
-    if byte == 153 {
-        return marks.with_walk(begun(unit.count));
+    match byte {
+        153 => marks.with_walk(begun(unit.count)),
+        167 => stepped(unit.count, marks),
+        _ if is_query(byte) => marks.with_walk(None),
+        _ => marks,
     }
-    if byte == 167 {
-        return stepped(unit.count, marks);
-    }
-    if is_query(byte) {
-        return marks.with_walk(Walk::Off);
-    }
-    marks
 }
 
 // Part 209, 11.3.2: the queries of the actual level, of power-on, of system failure and of the scenes.
+#[tactic(auto, unfolding(crate::specs::Heard::tells_level))]
 fn tells_level(byte: u8) -> bool
     ensures { result ≡ tells_level byte }
 {
-    match byte {
-        160 => true,
-        163 => true,
-        164 => true,
-        _ => byte / 16 == 11,
-    }
+    matches!(byte, 160 | 163 | 164 | 176..=191)
 }
 
 // Only a colour gear reports the colour of the level that it tells.
+#[tactic(auto, unfolding(crate::specs::Heard::reports))]
 pub fn reports(unit: Unit, byte: u8) -> bool
     ensures { result ≡ reports unit byte }
 {
-    if tells_level(byte) {
-        return unit.is_dt8();
-    }
-    false
+    tells_level(byte) && unit.is_dt8()
 }
 
 // The colour of the level that a query tells.
+#[tactic(auto, unfolding(crate::specs::Heard::shown))]
 pub fn shown(
     active: Tint,
     on: ColourSetting,

@@ -1,13 +1,14 @@
 // What a query answers (document 01, 'Command bytes').
-ghost use Rattle.std.specs.Prelude.{◌≡◌};
+ghost use Rattle.std.specs.Prelude.{◌≡◌, Ok};
+ghost use Rattle.gear.specs.declared.answer.Reply.TheVariants.{Value};
 ghost use Rattle.query.specs.Reply.{is_status_query, is_setting_query, is_query, yes, status_reply, packed_fades, gear_failure, setting_reply, identity_reply, reply, told};
 
 use crate::bits::eight;
 use crate::lamp::{actual_level_answer, lamp_on};
-use crate::status::{is_missing, status_byte};
+use crate::status::status_byte;
 use crate::walk::{next_type_answer, type_answer};
 use colour::tint::Tint;
-use gear::answer::{Answer, Refusal};
+use gear::answer::{Answer, Refusal, Reply};
 use gear::condition::{Faults, Lamp};
 use gear::marks::Marks;
 use gear::profile::Unit;
@@ -32,32 +33,26 @@ pub struct Seen {
     pub active: Tint,
 }
 
+#[tactic(auto, unfolding(crate::specs::Reply::is_status_query))]
 fn is_status_query(low: u8) -> bool
     ensures { result ≡ is_status_query low }
 {
-    match low {
-        8 => false,
-        12 => false,
-        13 => false,
-        _ => true,
-    }
+    !matches!(low, 8 | 12 | 13)
 }
 
+#[tactic(auto, unfolding(crate::specs::Reply::is_setting_query))]
 fn is_setting_query(low: u8) -> bool
     ensures { result ≡ is_setting_query low }
 {
-    if low <= 8 {
-        return true;
-    }
-    low == 10
+    matches!(low, 0..=8 | 10)
 }
 
+#[tactic(auto, unfolding(crate::specs::Reply::is_query))]
 pub(crate) fn is_query(byte: u8) -> bool
     ensures { result ≡ is_query byte }
 {
-    let block = byte / 16;
     let low = byte % 16;
-    match block {
+    match byte / 16 {
         9 => is_status_query(low),
         10 => is_setting_query(low),
         11 => true,
@@ -67,47 +62,47 @@ pub(crate) fn is_query(byte: u8) -> bool
 }
 
 // Yes is 255; no is no answer.
+#[tactic(auto, unfolding(crate::specs::Reply::yes))]
 fn yes(holds: bool) -> Answer
     ensures { result ≡ yes holds }
 {
-    if holds {
-        return Answer::Value(255);
-    }
-    Answer::Nothing
+    Ok(if holds {
+        Reply::Value(255)
+    } else {
+        Reply::Nothing
+    })
 }
 
 fn value(byte: u8) -> Answer
-    ensures { result ≡ Answer.Value byte }
+    ensures { result ≡ Ok (Value byte) }
 {
-    Answer::Value(byte as u16)
+    Ok(Reply::Value(u16::from(byte)))
 }
 
 // Queries 144 to 159.
+#[tactic(auto, unfolding(crate::specs::Reply::status_reply, crate::specs::Status::missing))]
 fn status_reply(seen: Seen, low: u8) -> Answer
     ensures { result ≡ status_reply seen low }
 {
     match low {
         0 => value(status_byte(seen.unit, seen.levels, seen.marks, seen.lamp, seen.faults)),
-        1 => Answer::Value(255),
+        1 => Ok(Reply::Value(255)),
         2 => yes(seen.lamp.failure),
         3 => yes(lamp_on(seen.unit, seen.levels, seen.lamp, seen.faults)),
         4 => yes(seen.levels.error),
         5 => yes(seen.marks.reset),
-        6 => {
-            let unit = seen.unit;
-            let short = unit.short;
-            yes(is_missing(short))
-        }
-        7 => Answer::Value(8),
+        6 => yes(seen.unit.short.is_none()),
+        7 => Ok(Reply::Value(8)),
         10 => value(seen.unit.minimum),
         11 => yes(seen.marks.cycled),
-        14 => Answer::Value(0),
-        15 => Answer::Value(6),
-        _ => Answer::Nothing,
+        14 => Ok(Reply::Value(0)),
+        15 => Ok(Reply::Value(6)),
+        _ => Ok(Reply::Nothing),
     }
 }
 
 // Fade time in the high half, fade rate in the low one, whatever else is stored in them.
+#[tactic(auto, unfolding(crate::specs::Reply::packed_fades))]
 fn packed_fades(time: u8, rate: u8) -> u8
     ensures { result ≡ packed_fades time rate }
 {
@@ -115,6 +110,7 @@ fn packed_fades(time: u8, rate: u8) -> u8
 }
 
 // Bit 0 of the status.
+#[tactic(auto, unfolding(crate::specs::Reply::gear_failure))]
 fn gear_failure(seen: Seen) -> bool
     ensures { result ≡ gear_failure seen }
 {
@@ -123,6 +119,7 @@ fn gear_failure(seen: Seen) -> bool
 }
 
 // Queries 160 to 170. No operating mode of this gear is a manufacturer's own, so 166 is never answered.
+#[tactic(auto, unfolding(crate::specs::Reply::setting_reply))]
 fn setting_reply(seen: Seen, low: u8) -> Answer
     ensures { result ≡ setting_reply seen low }
 {
@@ -135,60 +132,48 @@ fn setting_reply(seen: Seen, low: u8) -> Answer
         5 => value(packed_fades(seen.fades.time, seen.fades.rate)),
         8 => value(seen.fades.extended),
         10 => yes(gear_failure(seen)),
-        _ => Answer::Nothing,
+        _ => Ok(Reply::Nothing),
     }
 }
 
 // Queries 192 to 196.
+#[tactic(auto, unfolding(crate::specs::Reply::identity_reply))]
 fn identity_reply(seen: Seen, low: u8) -> Answer
     ensures { result ≡ identity_reply seen low }
 {
     let random = seen.unit.random;
     match low {
-        0 => {
-            let groups = seen.groups;
-            value(eight(groups, false))
-        }
-        1 => {
-            let groups = seen.groups;
-            value(eight(groups, true))
-        }
-        2 => Answer::Value((random / 65536 % 256) as u16),
-        3 => Answer::Value((random / 256 % 256) as u16),
-        4 => Answer::Value((random % 256) as u16),
-        _ => Answer::Nothing,
+        0 => value(eight(seen.groups, false)),
+        1 => value(eight(seen.groups, true)),
+        2 => value((random / 65536 % 256) as u8),
+        3 => value((random / 256 % 256) as u8),
+        4 => value((random % 256) as u8),
+        _ => Ok(Reply::Nothing),
     }
 }
 
+#[tactic(auto, unfolding(crate::specs::Reply::reply))]
 fn reply(seen: Seen, byte: u8) -> Answer
     ensures { result ≡ reply seen byte }
 {
-    let block = byte / 16;
     let low = byte % 16;
-    match block {
+    match byte / 16 {
         9 => status_reply(seen, low),
         10 => setting_reply(seen, low),
         11 => value(seen.scene),
         12 => identity_reply(seen, low),
-        _ => Answer::Nothing,
+        _ => Ok(Reply::Nothing),
     }
 }
 
+#[tactic(auto, unfolding(crate::specs::Reply::told))]
 pub fn query_answer(seen: Seen, byte: u8) -> Answer
     ensures { result ≡ told seen byte }
 {
-    if byte == 153 {
-        let unit = seen.unit;
-        return type_answer(unit);
+    match byte {
+        153 => type_answer(seen.unit),
+        167 => next_type_answer(seen.unit, seen.marks.walk),
+        _ if is_query(byte) => reply(seen, byte),
+        _ => Err(Refusal::Byte),
     }
-    if byte == 167 {
-        let unit = seen.unit;
-        let marks = seen.marks;
-        let walk = marks.walk;
-        return next_type_answer(unit, walk);
-    }
-    if is_query(byte) {
-        return reply(seen, byte);
-    }
-    Answer::Refused(Refusal::Byte)
 }

@@ -1,36 +1,40 @@
 // The digest (oracle/FORMAT.md): it starts at 0, and each byte of the image is folded into it.
 use colour::setting::ColourSetting;
 
-pub fn byte(d: u32, b: u8) -> u32 {
-    ((d as u64 * 1000003 + b as u64 + 1) % 4294967291) as u32
-}
+#[derive(Clone, Copy)]
+pub struct Digest(u32);
 
-pub fn flag(d: u32, yes: bool) -> u32 {
-    if yes {
-        return byte(d, 1);
+impl Digest {
+    pub const START: Digest = Digest(0);
+
+    pub fn number(self) -> u32 {
+        self.0
     }
-    byte(d, 0)
-}
 
-pub fn word(d: u32, number: u16) -> u32 {
-    let high = (number / 256) as u8;
-    let low = (number % 256) as u8;
-    byte(byte(d, high), low)
-}
-
-pub fn bytes(d: u32, list: &[u8]) -> u32 {
-    let mut sum = d;
-    let mut i: usize = 0;
-    while i < list.len() {
-        sum = byte(sum, list[i]);
-        i += 1;
+    pub fn byte(self, b: u8) -> Digest {
+        Digest(((self.0 as u64 * 1000003 + b as u64 + 1) % 4294967291) as u32)
     }
-    sum
-}
 
-// A stored colour: type, x, y, Tc, six levels, control.
-pub fn setting(d: u32, colour: ColourSetting) -> u32 {
-    let levels = colour.levels;
-    let place = word(word(byte(d, colour.kind), colour.x), colour.y);
-    byte(bytes(word(place, colour.tc), &levels), colour.control)
+    pub fn flag(self, yes: bool) -> Digest {
+        self.byte(u8::from(yes))
+    }
+
+    // High byte first.
+    pub fn word(self, number: u16) -> Digest {
+        self.bytes(&number.to_be_bytes())
+    }
+
+    pub fn bytes(self, list: &[u8]) -> Digest {
+        list.iter().fold(self, |sum, b| sum.byte(*b))
+    }
+
+    // A stored colour: type, x, y, Tc, six levels, control.
+    pub fn setting(self, colour: ColourSetting) -> Digest {
+        self.byte(colour.kind)
+            .word(colour.x)
+            .word(colour.y)
+            .word(colour.tc)
+            .bytes(&colour.levels)
+            .byte(colour.control)
+    }
 }

@@ -3,21 +3,12 @@ use crate::entry::byte;
 
 // The kinds of call are 0 to 43, and those of placing are 64 to 75.
 fn is_kind(kind: u8) -> bool {
-    if kind <= 43 {
-        return true;
-    }
-    if kind < 64 {
-        return false;
-    }
-    kind <= 75
+    matches!(kind, 0..=43 | 64..=75)
 }
 
 // A cursor of the type walk, or 255 for off.
 fn is_walk(cursor: u8) -> bool {
-    if cursor <= 16 {
-        return true;
-    }
-    cursor == 255
+    matches!(cursor, 0..=16 | 255)
 }
 
 // An offset of bank 0 or 1.
@@ -32,11 +23,9 @@ fn is_location(bank: u8, offset: u8) -> bool {
 // An address kind is 0 to 3, and a placing's scene, mode, count or location is one that there is.
 fn has_range(kind: u8, first: u8, second: u8) -> bool {
     match kind {
-        29 => first <= 3,
+        29 | 71 | 72 => first <= 3,
         65 => is_walk(first),
         67 => first <= 15,
-        71 => first <= 3,
-        72 => first <= 3,
         73 => first <= 16,
         74 => is_location(first, second),
         _ => true,
@@ -49,8 +38,5 @@ pub fn is_placing(kind: u8) -> bool {
 
 pub fn is_formed(entry: &[u8]) -> bool {
     let kind = byte(entry, 0);
-    if is_kind(kind) {
-        return has_range(kind, byte(entry, 1), byte(entry, 2));
-    }
-    false
+    is_kind(kind) && has_range(kind, byte(entry, 1), byte(entry, 2))
 }

@@ -1,120 +1,97 @@
 // The digest of a whole record: 426 bytes, every field in the order of oracle/FORMAT.md.
-use crate::digest::{byte, bytes, flag, setting, word};
+use crate::digest::Digest;
+use crate::entry::NONE;
 use bank::build::Banks;
 use colour::limits::Limits;
 use colour::record::{Capabilities, Colour};
 use colour::tint::{ColorMode, Tint};
 use gear::condition::{Faults, Lamp};
-use gear::marks::{Marks, Pair, Walk};
-use gear::profile::{Short, Unit};
+use gear::marks::Marks;
+use gear::profile::Unit;
 use gear::record::Gear;
 use gear::settings::{Fades, LevelSetting};
 use level::levels::Levels;
 use query::bits::eight;
 
-// 255 is no address.
-fn short_number(short: Short) -> u8 {
-    match short {
-        Short::Missing => 255,
-        Short::Address(address) => address,
-    }
-}
-
 // The lowest three bytes.
-fn random(d: u32, address: u32) -> u32 {
-    let high = (address / 65536 % 256) as u8;
-    let middle = (address / 256 % 256) as u8;
-    let low = (address % 256) as u8;
-    byte(byte(byte(d, high), middle), low)
+fn random(d: Digest, address: u32) -> Digest {
+    let [_, high, middle, low] = address.to_be_bytes();
+    d.byte(high).byte(middle).byte(low)
 }
 
 // Codes past the count are 0.
-fn types(d: u32, codes: [u8; 16], count: u8) -> u32 {
-    let mut sum = d;
-    let mut i: usize = 0;
-    while i < 16 {
-        if i < count as usize {
-            sum = byte(sum, codes[i]);
-        } else {
-            sum = byte(sum, 0);
-        }
-        i += 1;
-    }
-    sum
+fn types(d: Digest, codes: [u8; 16], count: u8) -> Digest {
+    codes.iter().enumerate().fold(
+        d,
+        |sum, (i, code)| sum.byte(if i < count as usize { *code } else { 0 }),
+    )
 }
 
-fn profile(d: u32, unit: Unit, can: Capabilities) -> u32 {
-    let short = unit.short;
-    let codes = unit.types;
-    let named = random(byte(d, short_number(short)), unit.random);
-    let typed = types(byte(named, unit.count), codes, unit.count);
-    let coloured = flag(flag(typed, can.tc), can.xy);
-    let marked = flag(flag(flag(coloured, unit.adjustable), unit.holds), unit.bare);
-    byte(byte(marked, can.channels), unit.minimum)
+fn profile(d: Digest, unit: Unit, can: Capabilities) -> Digest {
+    let named = random(d.byte(unit.short.unwrap_or(NONE)), unit.random);
+    types(named.byte(unit.count), unit.types, unit.count)
+        .flag(can.tc)
+        .flag(can.xy)
+        .flag(unit.adjustable)
+        .flag(unit.holds)
+        .flag(unit.bare)
+        .byte(can.channels)
+        .byte(unit.minimum)
 }
 
-fn level(d: u32, levels: Levels) -> u32 {
-    let now = byte(byte(d, levels.level), levels.last);
-    flag(byte(byte(now, levels.min), levels.max), levels.error)
+fn level(d: Digest, levels: Levels) -> Digest {
+    d.byte(levels.level)
+        .byte(levels.last)
+        .byte(levels.min)
+        .byte(levels.max)
+        .flag(levels.error)
 }
 
-fn stored(d: u32, kept: LevelSetting) -> u32 {
-    let colour = kept.colour;
-    setting(byte(d, kept.level), colour)
+fn stored(d: Digest, kept: LevelSetting) -> Digest {
+    d.byte(kept.level).setting(kept.colour)
 }
 
-fn fade(d: u32, fades: Fades) -> u32 {
-    byte(byte(byte(d, fades.time), fades.rate), fades.extended)
+fn fade(d: Digest, fades: Fades) -> Digest {
+    d.byte(fades.time).byte(fades.rate).byte(fades.extended)
 }
 
 // Group 0 is the lowest bit of the second byte.
-fn group(d: u32, groups: [bool; 16]) -> u32 {
-    byte(byte(d, eight(groups, true)), eight(groups, false))
+fn group(d: Digest, groups: [bool; 16]) -> Digest {
+    d.byte(eight(groups, true)).byte(eight(groups, false))
 }
 
 // The Rust's two arrays: the levels of the entries, and their colours.
-fn scene_levels(d: u32, scenes: [LevelSetting; 16]) -> u32 {
-    let mut sum = d;
-    let mut i: usize = 0;
-    while i < 16 {
-        let entry = scenes[i];
-        sum = byte(sum, entry.level);
-        i += 1;
-    }
-    sum
+fn scene_levels(d: Digest, scenes: [LevelSetting; 16]) -> Digest {
+    scenes.iter().fold(d, |sum, entry| sum.byte(entry.level))
 }
 
-fn lamps(d: u32, lamp: Lamp, faults: Faults) -> u32 {
-    let lit = flag(flag(d, lamp.failure), lamp.starting);
-    let forced = byte(byte(word(lit, faults.drop), faults.forced), faults.failure);
-    flag(flag(forced, faults.unstored), faults.holds)
+fn scene_colours(d: Digest, scenes: [LevelSetting; 16]) -> Digest {
+    scenes
+        .iter()
+        .fold(d, |sum, entry| sum.setting(entry.colour))
 }
 
-// 255 is off.
-fn walk_number(walk: Walk) -> u8 {
-    match walk {
-        Walk::Off => 255,
-        Walk::At(next) => next,
-    }
+fn lamps(d: Digest, lamp: Lamp, faults: Faults) -> Digest {
+    d.flag(lamp.failure)
+        .flag(lamp.starting)
+        .word(faults.drop)
+        .byte(faults.forced)
+        .byte(faults.failure)
+        .flag(faults.unstored)
+        .flag(faults.holds)
 }
 
-fn pairs(d: u32, pair: Pair) -> u32 {
-    match pair {
-        Pair::Closed => word(flag(d, false), 0),
-        Pair::Open(frame) => word(flag(d, true), frame),
-    }
-}
-
-fn mark(d: u32, marks: Marks, curve: u8) -> u32 {
-    let walk = marks.walk;
-    let pair = marks.pair;
-    let seen = flag(flag(d, marks.reset), marks.cycled);
-    let addressed = flag(flag(seen, marks.initialise), marks.withdrawn);
-    let told = flag(
-        byte(flag(addressed, marks.identifying), curve),
-        marks.writable,
-    );
-    pairs(byte(told, walk_number(walk)), pair)
+fn mark(d: Digest, marks: Marks, curve: u8) -> Digest {
+    d.flag(marks.reset)
+        .flag(marks.cycled)
+        .flag(marks.initialise)
+        .flag(marks.withdrawn)
+        .flag(marks.identifying)
+        .byte(curve)
+        .flag(marks.writable)
+        .byte(marks.walk.unwrap_or(NONE))
+        .flag(marks.pair.is_some())
+        .word(marks.pair.unwrap_or(0))
 }
 
 fn mode_number(mode: ColorMode) -> u8 {
@@ -126,75 +103,48 @@ fn mode_number(mode: ColorMode) -> u8 {
     }
 }
 
-fn place(d: u32, tint: Tint) -> u32 {
-    let mode = tint.mode;
-    let there = word(word(byte(d, mode_number(mode)), tint.x), tint.y);
-    word(there, tint.tc)
+fn place(d: Digest, tint: Tint) -> Digest {
+    d.byte(mode_number(tint.mode))
+        .word(tint.x)
+        .word(tint.y)
+        .word(tint.tc)
 }
 
-fn channel(d: u32, tint: Tint) -> u32 {
-    let levels = tint.levels;
-    byte(bytes(d, &levels), tint.control)
+fn channel(d: Digest, tint: Tint) -> Digest {
+    d.bytes(&tint.levels).byte(tint.control)
 }
 
-fn limit(d: u32, limits: Limits) -> u32 {
-    let stored = word(word(d, limits.stored.coolest), limits.stored.warmest);
-    word(
-        word(stored, limits.physical.coolest),
-        limits.physical.warmest,
-    )
+fn limit(d: Digest, limits: Limits) -> Digest {
+    d.word(limits.stored.coolest)
+        .word(limits.stored.warmest)
+        .word(limits.physical.coolest)
+        .word(limits.physical.warmest)
 }
 
-fn tints(d: u32, colour: Colour) -> u32 {
-    let active = colour.active;
-    let pending = colour.pending;
-    let limits = colour.limits;
-    let report = colour.report;
-    let lit = channel(flag(place(d, active), colour.outside), active);
-    let staged = limit(channel(place(lit, pending), pending), limits);
-    byte(setting(staged, report), colour.features)
-}
-
-fn scene_colours(d: u32, scenes: [LevelSetting; 16]) -> u32 {
-    let mut sum = d;
-    let mut i: usize = 0;
-    while i < 16 {
-        let entry = scenes[i];
-        let colour = entry.colour;
-        sum = setting(sum, colour);
-        i += 1;
-    }
-    sum
-}
-
-fn memory(d: u32, banks: Banks) -> u32 {
-    let identity = banks.identity;
-    let profile = banks.profile;
-    bytes(bytes(d, &identity), &profile)
+fn tints(d: Digest, colour: Colour) -> Digest {
+    let lit = channel(place(d, colour.active).flag(colour.outside), colour.active);
+    let staged = channel(place(lit, colour.pending), colour.pending);
+    limit(staged, colour.limits)
+        .setting(colour.report)
+        .byte(colour.features)
 }
 
 // Bytes 0 to 92.
-fn settings(gear: Gear) -> u32 {
-    let unit = gear.unit;
-    let can = gear.colour.can;
-    let levels = gear.levels;
-    let on = gear.settings.on;
-    let failure = gear.settings.failure;
-    let fades = gear.settings.fades;
-    let groups = gear.settings.groups;
-    let scenes = gear.scenes;
-    let lamp = gear.condition.lamp;
-    let faults = gear.condition.faults;
-    let levelled = level(flag(profile(0, unit, can), gear.condition.enabled), levels);
-    let kept = fade(stored(stored(levelled, on), failure), fades);
-    lamps(scene_levels(group(kept, groups), scenes), lamp, faults)
+fn settings(gear: Gear) -> Digest {
+    let known = profile(Digest::START, gear.unit, gear.colour.can).flag(gear.condition.enabled);
+    let on = stored(level(known, gear.levels), gear.settings.on);
+    let kept = fade(stored(on, gear.settings.failure), gear.settings.fades);
+    lamps(
+        scene_levels(group(kept, gear.settings.groups), gear.scenes),
+        gear.condition.lamp,
+        gear.condition.faults,
+    )
 }
 
 pub fn digest(gear: Gear) -> u32 {
-    let marks = gear.marks;
-    let colour = gear.colour;
-    let scenes = gear.scenes;
-    let banks = gear.banks;
-    let marked = mark(settings(gear), marks, gear.settings.curve);
-    memory(scene_colours(tints(marked, colour), scenes), banks)
+    let marked = mark(settings(gear), gear.marks, gear.settings.curve);
+    scene_colours(tints(marked, gear.colour), gear.scenes)
+        .bytes(&gear.banks.identity)
+        .bytes(&gear.banks.profile)
+        .number()
 }

@@ -11,7 +11,7 @@ mod image;
 mod perform;
 mod place;
 
-use crate::compare::{Progress, compare_all, start};
+use crate::compare::{End, Progress};
 use input::read_full;
 use std::io;
 use std::io::Read;
@@ -20,50 +20,39 @@ use std::io::Read;
 const BUFFER_LEN: usize = 40960;
 
 // Compares as many entries as the buffer holds. The input is over where it does not fill the buffer.
-fn turn<R: Read>(input: &mut R, progress: Progress) -> io::Result<Progress> {
+fn turn<R: Read>(input: &mut R, progress: &mut Progress) -> io::Result<()> {
     let mut list = [0u8; BUFFER_LEN];
     let count = read_full(input, &mut list)?;
-    let mut next = compare_all(progress, &list[..count]);
+    progress.compare_all(&list[..count]);
     if count < BUFFER_LEN {
-        next.over = true;
+        progress.end = progress.end.or(Some(End::Over));
     }
-    Ok(next)
+    Ok(())
 }
 
-// A proved loop ends, and nothing says that an input does: so the turns count down from a number that no run uses up.
+// A proved loop ends, and nothing says that an input does: so there are as many turns as no run uses up.
 fn replayed<R: Read>(input: &mut R) -> io::Result<Progress> {
-    let mut progress = start();
-    let mut turns = u64::MAX;
-    while 0 < turns {
-        if progress.over {
-            return Ok(progress);
+    let mut progress = Progress::start();
+    for _ in 0..u64::MAX {
+        if progress.end.is_some() {
+            break;
         }
-        progress = turn(input, progress)?;
-        turns -= 1;
+        turn(input, &mut progress)?;
     }
     Ok(progress)
-}
-
-fn print_line(rt: &impl Print, name: &str, number: u64) -> io::Result<()> {
-    println!(rt; "{name}{number}")
-}
-
-fn print_first(rt: &impl Print, first: u64) -> io::Result<()> {
-    if first == 0 {
-        println!(rt; "first -")
-    } else {
-        print_line(rt, "first ", first)
-    }
 }
 
 fn main(rt: HostRuntime) -> io::Result<()> {
     let mut input = rt.stdin();
     let progress = replayed(&mut input)?;
-    print_line(&rt, "compared ", progress.compared)?;
-    print_line(&rt, "differ ", progress.differ)?;
-    print_first(&rt, progress.first)?;
-    if progress.malformed {
-        print_line(&rt, "malformed at ", progress.offset)?;
+    println!(rt; "compared {}", progress.compared)?;
+    println!(rt; "differ {}", progress.differ)?;
+    match progress.first {
+        Some(first) => println!(rt; "first {first}")?,
+        None => println!(rt; "first -")?,
+    }
+    if let Some(End::Malformed) = progress.end {
+        println!(rt; "malformed at {}", progress.offset)?;
     }
     Ok(())
 }

@@ -1,6 +1,6 @@
 // The calls of a list on a record, by kind. Only a kind that there is comes here.
 use crate::build::new_gear;
-use crate::entry::{byte, flag, from, setting, word};
+use crate::entry::{byte, flag, setting, word};
 use crate::place::place;
 use calls::address::{Address, matches};
 use calls::colours::{
@@ -50,7 +50,7 @@ fn colours(gear: Gear, entry: &[u8], kind: u8) -> Outcome {
         4 => tc_step(gear, flag(entry, 1)),
         5 => xy_step(gear, flag(entry, 1), flag(entry, 2)),
         6 => store_tc_limit(gear, word(entry, 2), byte(entry, 1)),
-        7 => load_temporaries_from(gear, setting(from(entry, 1))),
+        7 => load_temporaries_from(gear, setting(entry, 1)),
         8 => activate_pending_color(gear),
         9 => told(gear, color_value(gear, byte(entry, 1))),
         _ => copy_report_to_temporary(gear),
@@ -141,6 +141,7 @@ fn reads(gear: Gear, kind: u8) -> Outcome {
     }
 }
 
+// The kind is a byte of the list's format: one match on it is the table, and an enum or closures beside it would be no plainer.
 pub fn perform(gear: Gear, entry: &[u8]) -> Outcome {
     let kind = byte(entry, 0);
     match kind {

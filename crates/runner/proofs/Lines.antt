@@ -4,11 +4,12 @@ use native.Mathlib.Omega.{arith}
 use mathlib.Core.Path.{◌≡◌, refl}
 use mathlib.Core.List.{[], ◌∷◌}
 use lib.ListN.{length, length-append}
+use Rattle.std.specs.declared.result.Result.TheVariants.{Ok, Err}
 use Rattle.colour.specs.declared.capability.Capability.{Capability}
-use Rattle.gear.specs.declared.answer.Answer.{Answer}
-use Rattle.gear.specs.declared.answer.Answer.TheVariants.{Done, Value, Nothing, Incapable, Refused}
+use Rattle.gear.specs.declared.answer.Reply.TheVariants.{Done, Value, Nothing, Incapable}
 use Rattle.gear.specs.declared.answer.Refusal.{Refusal}
 use Rattle.gear.specs.declared.answer.Refusal.TheVariants.{Profile, Unfit, Byte, Group, File, Length}
+use Rattle.gear.specs.Answer.{Answer}
 use Rattle.runner.specs.Line.{digits, number_text, answer_text, line_text, end_text, bad_text}
 use Rattle.runner.proofs.Digits.{digits_length, digits_most}
 
@@ -18,7 +19,7 @@ number_length : (n behind k : ℕ) → length (digits 5 n) ≤ k → length (num
 unfolding number_text
 number_length n behind k h = rw length-append (omega arith)
 
-refusal_length : (r : Refusal) → length (answer_text (Refused r)) ≡ 2
+refusal_length : (r : Refusal) → length (answer_text (Err r)) ≡ 2
 unfolding answer_text digits
 refusal_length Profile = refl
 refusal_length Unfit = refl
@@ -29,11 +30,11 @@ refusal_length Length = refl
 
 answer_length : (a : Answer) → length (answer_text a) ≤ 5
 unfolding answer_text
-answer_length Done = omega arith
-answer_length (Value n) = digits_most 5 n
-answer_length Nothing = omega arith
-answer_length (Incapable need) = omega arith
-answer_length (Refused r) = omega (arith, refusal_length r)
+answer_length (Ok Done) = omega arith
+answer_length (Ok (Value n)) = digits_most 5 n
+answer_length (Ok Nothing) = omega arith
+answer_length (Ok (Incapable need)) = omega arith
+answer_length (Err r) = omega (arith, refusal_length r)
 
 -- a line of one of at most 4,096 steps
 pub line_length : (number : ℕ) (a : Answer) → number ≤ 4096 → length (line_text number a) ≤ 11
@@ -64,11 +65,11 @@ bad_length offset h =
 
 -- ## Document 01's example, and one line of each other kind
 
-step_1 : line_text 1 Done ≡ 49 ∷ 32 ∷ 46 ∷ 10 ∷ []
+step_1 : line_text 1 (Ok Done) ≡ 49 ∷ 32 ∷ 46 ∷ 10 ∷ []
 unfolding line_text number_text answer_text digits
 step_1 = refl
 
-step_3 : line_text 3 (Value 200) ≡ 51 ∷ 32 ∷ 50 ∷ 48 ∷ 48 ∷ 10 ∷ []
+step_3 : line_text 3 (Ok (Value 200)) ≡ 51 ∷ 32 ∷ 50 ∷ 48 ∷ 48 ∷ 10 ∷ []
 unfolding line_text number_text answer_text digits
 step_3 = refl
 
@@ -77,17 +78,17 @@ unfolding end_text number_text digits
 last = refl
 
 -- `4096 -`
-no_value : line_text 4096 Nothing ≡ 52 ∷ 48 ∷ 57 ∷ 54 ∷ 32 ∷ 45 ∷ 10 ∷ []
+no_value : line_text 4096 (Ok Nothing) ≡ 52 ∷ 48 ∷ 57 ∷ 54 ∷ 32 ∷ 45 ∷ 10 ∷ []
 unfolding line_text number_text answer_text digits
 no_value = refl
 
 -- `7 ~`, whatever the gear lacks
-not_capable : (need : Capability) → line_text 7 (Incapable need) ≡ 55 ∷ 32 ∷ 126 ∷ 10 ∷ []
+not_capable : (need : Capability) → line_text 7 (Ok (Incapable need)) ≡ 55 ∷ 32 ∷ 126 ∷ 10 ∷ []
 unfolding line_text number_text answer_text digits
 not_capable need = refl
 
 -- `10 !3`
-no_such_step : line_text 10 (Refused Byte) ≡ 49 ∷ 48 ∷ 32 ∷ 33 ∷ 51 ∷ 10 ∷ []
+no_such_step : line_text 10 (Err Byte) ≡ 49 ∷ 48 ∷ 32 ∷ 33 ∷ 51 ∷ 10 ∷ []
 unfolding line_text number_text answer_text digits
 no_such_step = refl
 

@@ -6,8 +6,8 @@ use mathlib.Core.List.{List, [], ◌++◌}
 use lib.ListN.{length, length-append}
 use native.Mathlib.Numerals.{add-one}
 use native.Mathlib.Omega.{arith}
-use Rattle.gear.specs.declared.answer.Answer.{Answer}
 use Rattle.gear.specs.declared.record.Gear.{Gear}
+use Rattle.gear.specs.Answer.{Answer}
 use Rattle.runner.specs.Line.{Wrote, line_text}
 use Rattle.runner.specs.Run.{answer_after, performed, state_after, text_after}
 use Rattle.runner.proofs.Lines.{line_length}

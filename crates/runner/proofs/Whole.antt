@@ -1,17 +1,16 @@
 -- A whole run: the room that its lines want, and the last line behind those of the steps.
 use Prim.Native.Nat.{ℕ, ◌+◌, ◌*◌, ◌≤◌, ◌<◌}
-use mathlib.Core.Path.{◌≡◌, refl, ap, ◌∙◌}
+use mathlib.Core.Path.{◌≡◌, refl}
 use mathlib.Core.List.{List}
 use lib.ListN.{length}
-use native.Mathlib.Nat.{zero-add}
 use native.Mathlib.Omega.{arith}
-use borrow.Author.Tests.{le-leb, lt-leb}
-use Rattle.file.specs.declared.Verdict.TheVariants.{Good, Bad}
-use Rattle.runner.specs.declared.run.Ran.{Ran}
-use Rattle.runner.specs.declared.run.Ran.TheVariants.{Lines, Malformed, Short}
+use borrow.Author.Tests.{lt-leb}
+use Rattle.std.specs.Prelude.{Err}
+use Rattle.file.specs.declared.Malformed.{Malformed}
+use Rattle.runner.specs.declared.run.RunError.TheVariants.{Malformed as Unrun, Short}
 use Rattle.file.specs.File.{well_formed, checked, steps_of}
 use Rattle.runner.specs.Line.{Wrote, end_text}
-use Rattle.runner.specs.Run.{text_after, count_of, first_of, last_of, lines_of, room, printed, ran, ran_into, reported, reported_into}
+use Rattle.runner.specs.Run.{text_after, count_of, first_of, last_of, lines_of, room, ran, ran_into, reported, reported_into}
 use Rattle.runner.proofs.Running.{text_length}
 use Rattle.file.proofs.Shape.{shape, steps_length}
 use Rattle.runner.proofs.Written.{wrote_behind}
@@ -52,32 +51,12 @@ module _ (s : List ℕ) where
 
   -- ## Into a lent buffer
 
-  pub reported_all :
-      {old new : List ℕ} {next : ℕ} → room s ≤ length old → Wrote old 0 (printed s) new next →
-      (Lines next ≡ reported s (length old)) × (new ≡ reported_into s old)
-  unfolding reported reported_into
-  reported_all {old} wide w = (
-    rw (le-leb (room s) (length old) wide) (ap Lines (w.next_is ∙ zero-add (length (printed s)))),
-    rw (le-leb (room s) (length old) wide) w.bytes,
-  )
-
   pub reported_none :
-      {old : List ℕ} → length old < room s → (Short (room s) ≡ reported s (length old)) × (old ≡ reported_into s old)
+      {old : List ℕ} → length old < room s → (Err (Short (room s)) ≡ reported s (length old)) × (old ≡ reported_into s old)
   unfolding reported reported_into
   reported_none {old} short = (rw (lt-leb (room s) (length old) short), rw (lt-leb (room s) (length old) short))
 
-  -- a well-formed file is run as it is reported
-  pub served_good :
-      (old : List ℕ) {new : List ℕ} {r : Ran} → checked s ≡ Good → (r ≡ reported s (length old)) × (new ≡ reported_into s old) →
-      (r ≡ ran s (length old)) × (new ≡ ran_into s old)
-  unfolding ran ran_into
-  served_good old good (told, left) = (rw good told, rw good left)
-
   pub served_bad :
-      (old : List ℕ) {x : ℕ} → checked s ≡ Bad x → (Malformed x ≡ ran s (length old)) × (old ≡ ran_into s old)
+      (old : List ℕ) {m : Malformed} → checked s ≡ Err m → (Err (Unrun m) ≡ ran s (length old)) × (old ≡ ran_into s old)
   unfolding ran ran_into
   served_bad old bad = (rw bad, rw bad)
-
--- a third fact beside two
-pub beside : {A B C : Type 0} → A × B → C → A × (B × C)
-beside (a, b) c = (a, (b, c))

@@ -1,8 +1,7 @@
 -- The lines that a run writes, as lists of bytes, and what a buffer holds once one is written into it.
-use Rattle.std.specs.Prelude.{ℕ, zero, suc, ◌+◌, ◌/◌, ◌%◌, ◌≡◌, List, [], ◌∷◌, ◌++◌, ltb, length, take, drop}
-use Rattle.gear.specs.declared.answer.Answer.{Answer}
-use Rattle.gear.specs.declared.answer.Answer.TheVariants.{Done, Value, Nothing, Incapable, Refused}
-use Rattle.gear.specs.Answer.{refusal_number}
+use Rattle.std.specs.Prelude.{ℕ, zero, suc, ◌+◌, ◌/◌, ◌%◌, ◌≡◌, List, [], ◌∷◌, ◌++◌, ltb, length, take, drop, Ok, Err}
+use Rattle.gear.specs.declared.answer.Reply.TheVariants.{Done, Value, Nothing, Incapable}
+use Rattle.gear.specs.Answer.{Answer, refusal_number}
 use Rattle.numbers.specs.Numbers.{pick}
 
 -- ## Text
@@ -30,11 +29,11 @@ number_text n behind = decimal n ++ (behind ∷ [])
 
 -- `.`, a decimal, `-`, `~` where the gear lacks what the value needs, or `!` and at once the refusal's number
 unfoldable pub answer_text : Answer → List ℕ
-answer_text Done = 46 ∷ []
-answer_text (Value n) = decimal n
-answer_text Nothing = 45 ∷ []
-answer_text (Incapable need) = 126 ∷ []
-answer_text (Refused r) = (33 ∷ []) ++ decimal (refusal_number r)
+answer_text (Ok Done) = 46 ∷ []
+answer_text (Ok (Value n)) = decimal n
+answer_text (Ok Nothing) = 45 ∷ []
+answer_text (Ok (Incapable need)) = 126 ∷ []
+answer_text (Err r) = (33 ∷ []) ++ decimal (refusal_number r)
 
 -- a step's number and its answer
 unfoldable pub line_text : ℕ → Answer → List ℕ

@@ -1,17 +1,16 @@
 -- A run: the steps one by one, each on the record that the one before it left, and a line for each.
-use Rattle.std.specs.Prelude.{ℕ, zero, suc, ◌+◌, ◌*◌, ◌/◌, List, [], ◌++◌, leb, get_or, length}
-use Rattle.file.specs.declared.Verdict.{Verdict}
-use Rattle.file.specs.declared.Verdict.TheVariants.{Good, Bad}
-use Rattle.runner.specs.declared.run.Ran.{Ran}
-use Rattle.runner.specs.declared.run.Ran.TheVariants.{Lines, Malformed, Short}
+use Rattle.std.specs.Prelude.{ℕ, zero, suc, ◌+◌, ◌*◌, ◌/◌, List, [], ◌++◌, leb, get_or, length, Result, Ok, Err, ⊤}
+use Rattle.file.specs.declared.Malformed.{Malformed}
+use Rattle.runner.specs.declared.run.RunError.{RunError}
+use Rattle.runner.specs.declared.run.RunError.TheVariants.{Malformed as Unrun, Short}
 use Rattle.file.specs.File.{checked, steps_of}
 use Rattle.runner.specs.Line.{line_text, end_text, bad_text, written}
 use Rattle.file.specs.Profile.{profile_in}
 use Rattle.step.specs.Step.{step}
-use Rattle.gear.specs.declared.answer.Answer.{Answer}
-use Rattle.gear.specs.declared.answer.Answer.TheVariants.{Done}
+use Rattle.gear.specs.declared.answer.Reply.TheVariants.{Done}
 use Rattle.gear.specs.declared.answer.Outcome.{Outcome}
 use Rattle.gear.specs.declared.record.Gear.{Gear}
+use Rattle.gear.specs.Answer.{Answer}
 use Rattle.gear.specs.Record.{new_gear}
 use Rattle.numbers.specs.Numbers.{pick}
 
@@ -32,7 +31,7 @@ text_after steps g (suc k) = text_after steps g k ++ line_text (k + 1) (performe
 
 -- what the last of the first k steps answered
 unfoldable pub answer_after : List ℕ → Gear → ℕ → Answer
-answer_after steps g zero = Done
+answer_after steps g zero = Ok Done
 answer_after steps g (suc k) = (performed steps (state_after steps g k) k).answer
 
 -- ## A file
@@ -55,9 +54,9 @@ lines_of s =
     end_text (last_of s).levels.level (last_of s).levels.min (last_of s).levels.max
 
 -- what the program prints
-abbrev pub printed_as : List ℕ → Verdict → List ℕ
-printed_as s Good = lines_of s
-printed_as s (Bad offset) = bad_text offset
+abbrev pub printed_as : List ℕ → Result ⊤ Malformed → List ℕ
+printed_as s (Ok u) = lines_of s
+printed_as s (Err m) = bad_text m.offset
 
 abbrev pub printed : List ℕ → List ℕ
 printed s = printed_as s (checked s)
@@ -69,29 +68,28 @@ unfoldable pub room : List ℕ → ℕ
 room s = count_of s * 11 + 16
 
 -- how many bytes were written
-abbrev pub bytes_of : Ran → ℕ
-bytes_of (Lines n) = n
-bytes_of (Malformed offset) = 0
-bytes_of (Short n) = 0
+abbrev pub bytes_of : Result ℕ RunError → ℕ
+bytes_of (Ok n) = n
+bytes_of (Err e) = 0
 
 -- what the program prints, or nothing where the buffer is too short for what it might be
-unfoldable pub reported : List ℕ → ℕ → Ran
-reported s n = pick (leb (room s) n) (Lines (length (printed s))) (Short (room s))
+unfoldable pub reported : List ℕ → ℕ → Result ℕ RunError
+reported s n = pick (leb (room s) n) (Ok (length (printed s))) (Err (Short (room s)))
 
 unfoldable pub reported_into : List ℕ → List ℕ → List ℕ
 reported_into s old = pick (leb (room s) (length old)) (written old 0 (printed s)) old
 
 -- the same, but a malformed file is refused with its offset, and nothing is written
-abbrev pub ran_as : List ℕ → ℕ → Verdict → Ran
-ran_as s n Good = reported s n
-ran_as s n (Bad offset) = Malformed offset
+abbrev pub ran_as : List ℕ → ℕ → Result ⊤ Malformed → Result ℕ RunError
+ran_as s n (Ok u) = reported s n
+ran_as s n (Err m) = Err (Unrun m)
 
-unfoldable pub ran : List ℕ → ℕ → Ran
+unfoldable pub ran : List ℕ → ℕ → Result ℕ RunError
 ran s n = ran_as s n (checked s)
 
-abbrev pub ran_into_as : List ℕ → List ℕ → Verdict → List ℕ
-ran_into_as s old Good = reported_into s old
-ran_into_as s old (Bad offset) = old
+abbrev pub ran_into_as : List ℕ → List ℕ → Result ⊤ Malformed → List ℕ
+ran_into_as s old (Ok u) = reported_into s old
+ran_into_as s old (Err m) = old
 
 unfoldable pub ran_into : List ℕ → List ℕ → List ℕ
 ran_into s old = ran_into_as s old (checked s)

@@ -14,7 +14,7 @@ use colour::report::load_report_from;
 use colour::staging::{copy_report_to_temporary, load_temporaries_from, take_staged_colour};
 use colour::steps::{store_tc_limit, tc_step};
 use colour::value::color_value;
-use gear::answer::{Answer, Refusal, location_answer, value_answer};
+use gear::answer::{Answer, Refusal, Reply, location_answer, value_answer};
 use gear::command::{ConfigCommand, StandardCommand, command_of};
 use gear::parts::{extended_fade, keeps_identify, recalled_levels, set_min};
 use gear::record::Gear;
@@ -33,11 +33,11 @@ pub(crate) struct Finished {
 }
 
 // Direct arc power has no byte of its own.
-fn command_at(kind: u8, byte: u8) -> StandardCommand
+fn command_at(kind: u8, byte: u8) -> Option<StandardCommand>
     ensures { result ≡ command_at kind byte }
 {
     if kind == 0 {
-        return StandardCommand::Arc(ArcCommand::DirectArcPower(byte));
+        return Some(StandardCommand::Arc(ArcCommand::DirectArcPower(byte)));
     }
     command_of(byte)
 }
@@ -89,7 +89,7 @@ pub(crate) fn follow(
     let mut state = gear;
     let mut at: usize = 0;
     let mut k: usize = 0;
-    let mut answer = Answer::Done;
+    let mut answer = Ok(Reply::Done);
     while k < count {
         let i = k * 4;
         let kind = steps[i];
@@ -97,23 +97,23 @@ pub(crate) fn follow(
         let b = steps[i + 2];
         let c = steps[i + 3];
         let slot = (a % 16) as usize;
-        answer = Answer::Done;
+        answer = Ok(Reply::Done);
         match kind {
             0 | 1 => {
                 let command = command_at(kind, a);
                 match command {
-                    StandardCommand::Arc(arc) => {
+                    Some(StandardCommand::Arc(arc)) => {
                         state.levels = apply_arc(state.levels, arc);
                         state.marks = state.marks.asked(keeps_identify(arc));
                         state.colour = arc_power_activation(state.colour);
                     }
-                    StandardCommand::GoToScene(_) => {
+                    Some(StandardCommand::GoToScene(_)) => {
                         let entry = state.scenes[slot];
                         state.levels = recalled_levels(state.levels, entry.level);
                         state.marks = state.marks.asked(false);
                         state.colour = recall(state.colour, entry.colour);
                     }
-                    StandardCommand::Config(config) => {
+                    Some(StandardCommand::Config(config)) => {
                         state.marks = state.marks.configured();
                         match config {
                             ConfigCommand::SetMaxLevel => {
@@ -188,12 +188,12 @@ pub(crate) fn follow(
                             }
                         }
                     }
-                    StandardCommand::Reset => {
+                    Some(StandardCommand::Reset) => {
                         state = Gear::reset_gear(state.unit, state.condition, state.colour);
                     },
-                    StandardCommand::IdentifyDevice => state.marks = state.marks.identified(),
-                    StandardCommand::EnableWriteMemory => state.marks = state.marks.enabled(),
-                    StandardCommand::Unknown => answer = Answer::Refused(Refusal::Byte),
+                    Some(StandardCommand::IdentifyDevice) => state.marks = state.marks.identified(),
+                    Some(StandardCommand::EnableWriteMemory) => state.marks = state.marks.enabled(),
+                    None => answer = Err(Refusal::Byte),
                 }
             }
             2 => {
@@ -238,7 +238,7 @@ pub(crate) fn follow(
             }
             11 => state.colour = copy_report_to_temporary(state.colour),
             12 => state.colour.features = a,
-            _ => answer = Answer::Refused(Refusal::Byte),
+            _ => answer = Err(Refusal::Byte),
         }
         k += 1;
         if lines {

@@ -3,7 +3,7 @@ ghost use Rattle.std.specs.Prelude.{◌≡◌, [], ◌∷◌, ◌++◌, ◌+◌,
 ghost use Rattle.gear.specs.Answer.{refusal_number};
 ghost use Rattle.runner.specs.Line.{digit, digits, last_two, number_text, answer_text, line_text, end_text, bad_text, Wrote};
 
-use gear::answer::{Answer, Refusal};
+use gear::answer::{Answer, Refusal, Reply};
 
 const SPACE: u8 = 32;
 
@@ -93,26 +93,39 @@ fn put_refusal(buf: &mut [u8], at: usize, refusal: Refusal) -> usize
     requires { at + length ((33 ∷ []) ++ digits 5 (refusal_number refusal)) ≤ length buf.old }
     ensures { Wrote buf.old at ((33 ∷ []) ++ digits 5 (refusal_number refusal)) buf.new result }
 {
-    let number = refusal.number();
+    let number = u8::from(refusal);
     let next = put(buf, at, b'!');
     put_digits(buf, next, number as usize)
 }
 
+#[tactic(auto, unfolding(crate::specs::Line::answer_text))]
 fn put_answer(buf: &mut [u8], at: usize, answer: Answer) -> usize
     requires { at + length (answer_text answer) ≤ length buf.old }
     ensures { Wrote buf.old at (answer_text answer) buf.new result }
 {
     match answer {
-        Answer::Done => put(buf, at, b'.'),
-        Answer::Value(value) => put_digits(buf, at, value as usize),
-        Answer::Nothing => put(buf, at, b'-'),
-        Answer::Incapable(_) => put(buf, at, b'~'),
-        Answer::Refused(refusal) => put_refusal(buf, at, refusal),
+        Ok(Reply::Done) => put(buf, at, b'.'),
+        Ok(Reply::Value(value)) => put_digits(buf, at, value as usize),
+        Ok(Reply::Nothing) => put(buf, at, b'-'),
+        Ok(Reply::Incapable(_)) => put(buf, at, b'~'),
+        Err(refusal) => put_refusal(buf, at, refusal),
     }
 }
 
-// A step's number and its answer.
+// A step's number and its answer. Most steps are done or tell a value: told apart here, before the number is written, such a line costs
+// fewer instructions.
 pub(crate) fn put_line(buf: &mut [u8], at: usize, number: usize, answer: Answer) -> usize
+    requires { at + length (line_text number answer) ≤ length buf.old }
+    ensures { Wrote buf.old at (line_text number answer) buf.new result }
+{
+    match answer {
+        Ok(Reply::Done) => put_answered(buf, at, number, Ok(Reply::Done)),
+        Ok(Reply::Value(value)) => put_answered(buf, at, number, Ok(Reply::Value(value))),
+        _ => put_answered(buf, at, number, answer),
+    }
+}
+
+fn put_answered(buf: &mut [u8], at: usize, number: usize, answer: Answer) -> usize
     requires { at + length (line_text number answer) ≤ length buf.old }
     ensures { Wrote buf.old at (line_text number answer) buf.new result }
 {

@@ -6,7 +6,7 @@ ghost use Rattle.std.specs.Io.KnownBytes.{Appends};
 ghost use Rattle.runner.specs.Run.{printed};
 
 use input::read_full;
-use runner::run::{Ran, report};
+use runner::run::report;
 use std::io;
 use std::io::Write;
 use std::process::ExitCode;
@@ -27,12 +27,9 @@ fn print<W: Write>(output: &mut W, file: &[u8]) -> io::Result<()>
     ensures { OnOk result (Appends (W.contents output.old) (W.contents output.new) (printed file.now)) }
 {
     let mut lines = [0u8; LINES_LEN];
-    let ran = report(file, &mut lines);
-    match ran {
-        Ran::Lines(count) => write_lines(output, &lines[..count]),
-        Ran::Malformed(_) => Ok(()),
-        Ran::Short(_) => Ok(()),
-    }
+    // There is room for the lines of any file, so no error comes.
+    let count = report(file, &mut lines).unwrap();
+    write_lines(output, &lines[..count])
 }
 
 // A line on standard error says what failed, where it can.

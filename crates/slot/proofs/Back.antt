@@ -7,23 +7,17 @@ use lib.Dec.{eqb, leb}
 use lib.ListN.{length, take}
 use borrow.Author.Tests.{leb-true, lt-ltb}
 use native.Mathlib.Omega.{arith}
-use Rattle.colour.specs.declared.setting.ColourSetting.{ColourSetting}
+use Rattle.std.specs.Prelude.{Option, None, Some}
 use Rattle.colour.specs.declared.tint.ColorMode.{ColorMode}
-use Rattle.colour.specs.declared.tint.ColorMode.TheVariants.{None, Cct, Xy, Rgb}
+use Rattle.colour.specs.declared.tint.ColorMode.TheVariants.{None as NoMode, Cct, Xy, Rgb}
 use Rattle.colour.specs.declared.tint.Tint.{Tint}
 use Rattle.colour.specs.Tint.{colour_type_byte}
-use Rattle.gear.specs.declared.marks.Pair.{Pair}
-use Rattle.gear.specs.declared.marks.Pair.TheVariants.{Closed, Open}
-use Rattle.gear.specs.declared.marks.Walk.{Walk}
-use Rattle.gear.specs.declared.marks.Walk.TheVariants.{Off, At}
-use Rattle.gear.specs.declared.profile.Short.{Short}
-use Rattle.gear.specs.declared.profile.Short.TheVariants.{Missing, Address}
 use Rattle.gear.specs.declared.profile.Unit.{Unit}
 use Rattle.gear.specs.declared.record.Gear.{Gear}
 use Rattle.gear.specs.Marks.{walk_fit}
 use Rattle.gear.specs.Profile.{short_fit, unit_fit}
 use Rattle.numbers.proofs.Logic.{both_right}
-use Rattle.slot.proofs.Lists.{bytes_back, bytes_cut, flag_back, flags_back, setting_back, settings_back, word_back}
+use Rattle.slot.proofs.Lists.{bytes_back, bytes_cut, colour_back, flag_back, flags_back, setting_back, settings_back, word_back}
 use Rattle.slot.specs.Held.{Sound}
 use Rattle.slot.specs.Image.{image_of, open_flag, open_frame, put_colour, short_byte, typed, walk_byte}
 use Rattle.slot.specs.Record.{colour_in, gear_of, listed, mode_of, pair_of, short_of, tint_of, walk_of}
@@ -34,22 +28,22 @@ image_length g = refl
 
 -- ## Single values
 
-pub short_back : (s : Short) → short_fit s ≡ true → short_of (short_byte s) ≡ s
+pub short_back : (s : Option ℕ) → short_fit s ≡ true → short_of (short_byte s) ≡ s
 unfolding short_fit
-short_back Missing h = refl
-short_back (Address a) h = rw (lt-ltb a 64 (omega (arith, leb-true a 63 h)))
+short_back None h = refl
+short_back (Some a) h = rw (lt-ltb a 64 (omega (arith, leb-true a 63 h)))
 
-pub walk_back : (w : Walk) → walk_fit w ≡ true → walk_of (walk_byte w) ≡ w
+pub walk_back : (w : Option ℕ) → walk_fit w ≡ true → walk_of (walk_byte w) ≡ w
 unfolding walk_fit
-walk_back Off h = refl
-walk_back (At n) h = rw (lt-ltb n 17 (omega (arith, leb-true n 16 h)))
+walk_back None h = refl
+walk_back (Some n) h = rw (lt-ltb n 17 (omega (arith, leb-true n 16 h)))
 
-pub pair_back : (p : Pair) → pair_of (eqb (open_flag p) 1) (open_frame p % 256 + 256 * (open_frame p / 256)) ≡ p
-pair_back Closed = refl
-pair_back (Open frame) = ap Open (word_back frame)
+pub pair_back : (p : Option ℕ) → pair_of (eqb (open_flag p) 1) (open_frame p % 256 + 256 * (open_frame p / 256)) ≡ p
+pair_back None = refl
+pair_back (Some frame) = ap Some (word_back frame)
 
 pub mode_back : (m : ColorMode) → mode_of (colour_type_byte m) ≡ m
-mode_back None = refl
+mode_back NoMode = refl
 mode_back Xy = refl
 mode_back Cct = refl
 mode_back Rgb = refl
@@ -58,18 +52,6 @@ random_back : (n : ℕ) → n % 256 + 256 * (n / 256 % 256) + 65536 * (n / 65536
 random_back n = omega arith
 
 -- ## Parts
-
-colour_back : (s : ColourSetting) (t : List ℕ) → length s.levels ≡ 6 → colour_in (put_colour s t) ≡ s
-colour_back s t h =
-    λ i.
-    record {
-      kind = s.kind;
-      control = s.control;
-      x = word_back s.x i;
-      y = word_back s.y i;
-      tc = word_back s.tc i;
-      levels = bytes_back 6 s.levels [] h i;
-    }
 
 tint_back : (p : Tint) (t : List ℕ) → length p.levels ≡ 6 → tint_of (colour_in (put_colour (typed p) t)) ≡ p
 tint_back p t h =

@@ -6,6 +6,7 @@ use mathlib.Core.List.{List, [], ◌∷◌, ◌++◌}
 use lib.Dec.{eqb, leb, ltb}
 use lib.ListN.{drop, get_or, length, replicate, take, get_or-replicate, length-drop, get_or-append, get_or-eq_default}
 use lib.Seq.{drop-cons, drop-drop, get_or-drop}
+use Rattle.std.proofs.lemmas.List.{ext_get_or, length-replicate}
 use borrow.Author.Tests.{eqb-true, leb-true, ltb-false, ltb-true}
 use native.Mathlib.Nat.{add-zero, add-suc, suc-add, suc-mul, add_comm}
 use native.Mathlib.Omega.{arith}
@@ -98,7 +99,7 @@ setting_forth : (xs : List ℕ) → 15 ≤ length xs → Bytes xs → put_settin
 setting_forth xs h bytes =
     ap (put_colour (colour_in xs)) (laid_out 1 14 xs (omega arith)) ∙ colour_forth xs (omega arith) bytes
 
-bytes_drop : (k : ℕ) (b : List ℕ) → Bytes b → Bytes (drop k b)
+pub bytes_drop : (k : ℕ) (b : List ℕ) → Bytes b → Bytes (drop k b)
 bytes_drop k b bytes i = rw get_or-drop (bytes (k + i))
 
 settings_forth :
@@ -120,10 +121,8 @@ limit_at (m ∷ ls) [] h (suc k) l = omega arith
 limit_at (m ∷ ls) (x ∷ b) h (suc k) l = limit_at ls b (both_right (leb x m) (at_most ls b) h) k (omega arith)
 
 zeros_forth : (n : ℕ) (b : List ℕ) → length b ≡ n → ((i : ℕ) → at i b ≡ 0) → replicate n 0 ≡ b
-zeros_forth zero [] len zeros = refl
-zeros_forth zero (x ∷ b) len zeros = absurd (omega arith)
-zeros_forth (suc n) [] len zeros = absurd (omega arith)
-zeros_forth (suc n) (x ∷ b) len zeros = λ i. sym (zeros 0) i ∷ zeros_forth n b (omega arith) (λ j. zeros (suc j)) i
+zeros_forth n b len zeros =
+    ext_get_or 0 (replicate n 0) b (length-replicate n 0 ∙ sym len) (λ i h. get_or-replicate n i 0 0 (rw length-replicate at h) ∙ sym (zeros i))
 
 module _ (b : List ℕ) (len : length b ≡ 512) (bytes : Bytes b) (held : heldb b ≡ true) where
   low_enough : at_most limits b ≡ true

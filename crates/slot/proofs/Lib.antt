@@ -3,6 +3,8 @@ pub mod Forth
 pub mod Indexed
 pub mod Limited
 pub mod Lists
+pub mod Made
+pub mod Narrow
 pub mod Passes
 pub mod Puts
 pub mod Read

@@ -2,19 +2,20 @@
 use Prim.Native.Nat.{ℕ, zero, suc, ◌+◌, ◌*◌, ◌/◌, ◌%◌}
 use mathlib.Core.Path.{◌≡◌, refl, ap, ◌∙◌, sym}
 use mathlib.Core.Bool.{Bool, true, false}
-use mathlib.Core.List.{List, [], ◌∷◌, ◌++◌}
+use mathlib.Core.List.{List, [], ◌∷◌}
 use lib.Dec.{eqb}
 use lib.ListN.{length, get_or, drop}
-use lib.Seq.{drop-drop, get_or-drop}
-use native.Mathlib.Nat.{add-zero, add-suc, suc-add}
+use lib.Seq.{get_or-drop}
+use native.Mathlib.Nat.{add-suc}
 use native.Mathlib.Omega.{arith}
 use mir.Syntax.{w8}
 use mir.Val.{Fits}
+use Rattle.colour.specs.declared.setting.ColourSetting.{ColourSetting}
 use Rattle.gear.specs.declared.settings.LevelSetting.{LevelSetting}
 use Rattle.gear.specs.Scene.{nowhere}
 use Rattle.slot.specs.Held.{AllSix, Bytes}
-use Rattle.slot.specs.Image.{put_all, put_bytes, put_flags, put_setting, flag_byte}
-use Rattle.slot.specs.Record.{at, bytes_from, flag_at, flags_from, setting_in, settings_in}
+use Rattle.slot.specs.Image.{put_all, put_bytes, put_colour, put_flags, put_setting, flag_byte}
+use Rattle.slot.specs.Record.{at, bytes_from, colour_in, flag_at, flags_from, setting_in, settings_in}
 
 -- ## Single values
 
@@ -64,21 +65,20 @@ flags_back (suc n) (x ∷ xs) t h =
 
 -- ## Settings
 
-pub setting_back : (s : LevelSetting) (t : List ℕ) → length s.colour.levels ≡ 6 → setting_in (put_setting s t) ≡ s
-setting_back s t h =
+pub colour_back : (s : ColourSetting) (t : List ℕ) → length s.levels ≡ 6 → colour_in (put_colour s t) ≡ s
+colour_back s t h =
     λ i.
     record {
-      colour =
-          record {
-            kind = s.colour.kind;
-            control = s.colour.control;
-            x = word_back s.colour.x i;
-            y = word_back s.colour.y i;
-            tc = word_back s.colour.tc i;
-            levels = bytes_back 6 s.colour.levels [] h i;
-          };
-      level = s.level;
+      kind = s.kind;
+      control = s.control;
+      x = word_back s.x i;
+      y = word_back s.y i;
+      tc = word_back s.tc i;
+      levels = bytes_back 6 s.levels [] h i;
     }
+
+pub setting_back : (s : LevelSetting) (t : List ℕ) → length s.colour.levels ≡ 6 → setting_in (put_setting s t) ≡ s
+setting_back s t h = λ i. record { colour = colour_back s.colour (s.level ∷ t) h i; level = s.level }
 
 pub settings_back :
     (n : ℕ) (xs : List LevelSetting) (t : List ℕ) → length xs ≡ n → AllSix xs →
@@ -91,22 +91,9 @@ settings_back (suc n) (x ∷ xs) t h six =
 
 -- ## Reading on
 
--- one byte more, at the end
-pub bytes_more : (n k : ℕ) (b : List ℕ) → bytes_from (suc n) k b ≡ bytes_from n k b ++ (at (k + n) b ∷ [])
-bytes_more zero k b = rw add-zero
-bytes_more (suc n) k b = ap (λ (l : List ℕ). at k b ∷ l) (rw (add-suc, ← suc-add) (bytes_more n (suc k) b))
-
 pub bytes_at : (n k j : ℕ) (b : List ℕ) → bytes_from n j (drop k b) ≡ bytes_from n (k + j) b
 bytes_at zero k j b = refl
 bytes_at (suc n) k j b = λ i. get_or-drop k b j 0 i ∷ (bytes_at n k (suc j) b ∙ ap (λ (m : ℕ). bytes_from n m b) (add-suc k j)) i
-
-pub settings_more : (n : ℕ) (b : List ℕ) → settings_in (suc n) b ≡ settings_in n b ++ (setting_in (drop (15 * n) b) ∷ [])
-settings_more zero b = refl
-settings_more (suc n) b =
-    ap (λ (l : List LevelSetting). setting_in b ∷ l)
-    (settings_more n (drop 15 b) ∙
-    ap (λ (t : List ℕ). settings_in n (drop 15 b) ++ (setting_in t ∷ []))
-    (drop-drop (15 * n) 15 b ∙ ap (λ (k : ℕ). drop k b) (let e : 15 + 15 * n ≡ 15 * suc n = omega arith in e)))
 
 -- ## What the bytes of a slice are known to be
 

@@ -9,16 +9,11 @@ use lib.ListN.{drop, get_or, length, replicate, take}
 use lib.Seq.{get_or-drop, get_or-take}
 use borrow.Author.Tests.{leb-true, le-leb}
 use native.Mathlib.Omega.{arith}
+use Rattle.std.specs.Prelude.{Option, None, Some}
 use Rattle.colour.specs.declared.tint.ColorMode.{ColorMode}
-use Rattle.colour.specs.declared.tint.ColorMode.TheVariants.{None, Cct, Xy, Rgb}
+use Rattle.colour.specs.declared.tint.ColorMode.TheVariants.{None as NoMode, Cct, Xy, Rgb}
 use Rattle.colour.specs.Record.{fitb as colour_fit}
 use Rattle.colour.specs.Tint.{colour_type_byte}
-use Rattle.gear.specs.declared.marks.Pair.{Pair}
-use Rattle.gear.specs.declared.marks.Pair.TheVariants.{Closed, Open}
-use Rattle.gear.specs.declared.marks.Walk.{Walk}
-use Rattle.gear.specs.declared.marks.Walk.TheVariants.{Off, At}
-use Rattle.gear.specs.declared.profile.Short.{Short}
-use Rattle.gear.specs.declared.profile.Short.TheVariants.{Missing, Address}
 use Rattle.gear.specs.declared.record.Gear.{Gear}
 use Rattle.gear.specs.Marks.{walk_fit}
 use Rattle.gear.specs.Profile.{floor, is_type, short_fit, unit_fit}
@@ -99,31 +94,31 @@ flags_under zero xs ls b t = t
 flags_under (suc n) xs ls b t =
     both_true (le-leb (flag_byte (get_or xs 0 false)) 1 (flag_under (get_or xs 0 false))) (flags_under n (drop 1 xs) ls b t)
 
-short_under : (s : Short) → short_fit s ≡ true → short_byte s ≤ 64
+short_under : (s : Option ℕ) → short_fit s ≡ true → short_byte s ≤ 64
 unfolding short_fit
-short_under Missing h = omega arith
-short_under (Address a) h = omega (arith, leb-true a 63 h)
+short_under None h = omega arith
+short_under (Some a) h = omega (arith, leb-true a 63 h)
 
-walk_under : (w : Walk) → walk_fit w ≡ true → walk_byte w ≤ 17
+walk_under : (w : Option ℕ) → walk_fit w ≡ true → walk_byte w ≤ 17
 unfolding walk_fit
-walk_under Off h = omega arith
-walk_under (At n) h = omega (arith, leb-true n 16 h)
+walk_under None h = omega arith
+walk_under (Some n) h = omega (arith, leb-true n 16 h)
 
-open_under : (p : Pair) → open_flag p ≤ 1
-open_under Closed = omega arith
-open_under (Open frame) = omega arith
+open_under : (p : Option ℕ) → open_flag p ≤ 1
+open_under None = omega arith
+open_under (Some frame) = omega arith
 
 -- ## An image
 
 kind_known : (m : ColorMode) → is_kind (colour_type_byte m) ≡ true
-kind_known None = refl
+kind_known NoMode = refl
 kind_known Xy = refl
 kind_known Cct = refl
 kind_known Rgb = refl
 
-closed_quiet : (p : Pair) → pick (eqb (open_flag p) 1) true (eqb (open_frame p % 256 + 256 * (open_frame p / 256)) 0) ≡ true
-closed_quiet Closed = refl
-closed_quiet (Open frame) = refl
+closed_quiet : (p : Option ℕ) → pick (eqb (open_flag p) 1) true (eqb (open_frame p % 256 + 256 * (open_frame p / 256)) 0) ≡ true
+closed_quiet None = refl
+closed_quiet (Some frame) = refl
 
 image_canonical : (g : Gear) → canonical (image_of g) ≡ true
 unfolding image_of

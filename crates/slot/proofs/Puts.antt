@@ -1,14 +1,16 @@
--- Bytes put in front of others: as an array, behind what stands there already, and entry by entry.
-use Prim.Native.Nat.{ℕ, zero, suc, ◌+◌, ◌*◌, ◌-◌, ◌≤◌}
+-- Bytes put in front of others: as an array, entry by entry, and part by part behind what stands there already.
+use Prim.Native.Nat.{ℕ, zero, suc, ◌+◌, ◌≤◌}
 use mathlib.Core.Path.{◌≡◌, refl, ap, ◌∙◌, sym}
 use mathlib.Core.Bool.{Bool, true, false}
-use mathlib.Core.List.{List, [], ◌∷◌, ◌++◌, append_assoc, append-nil}
-use lib.ListN.{drop, get_or, length, replicate, take, length-append, length-replicate}
-use lib.Seq.{drop_at, drop-drop, drop-length, get_or-drop, take_at, take-length}
+use mathlib.Core.List.{List, [], ◌∷◌, ◌++◌, append_assoc, append-nil, map}
+use Rattle.std.specs.List.{flat_map}
+use Rattle.std.proofs.lemmas.List.Concat.{flat_map_single}
+use Rattle.std.proofs.lemmas.List.Folds.{flat_map-map}
+use lib.ListN.{drop, drop_of_length-le, length, replicate, take, length-append, length-replicate}
+use lib.Seq.{drop_at, drop-drop, get_or-drop, take_at}
 use mir.Val.{bool_byte}
-use borrow.Rule.Slice.PartMut.{put_mid}
-use native.Mathlib.Nat.{add_comm, add-zero, mul-suc}
-use native.Mathlib.Numerals.{add-one, one-add}
+use native.Mathlib.Nat.{add-zero}
+use native.Mathlib.Numerals.{add-one}
 use native.Mathlib.Omega.{arith}
 use Rattle.slot.specs.Image.{flag_byte, put_all, put_bytes}
 use Rattle.slot.specs.Record.{at, bytes_from}
@@ -28,6 +30,9 @@ bytes_put (suc n) (x ∷ xs) t h = ap (λ (l : List ℕ). x ∷ l) (bytes_put n 
 pub bytes_whole : (n : ℕ) (xs t : List ℕ) → length xs ≡ n → put_bytes n xs t ≡ xs ++ t
 bytes_whole n xs t h = bytes_put n xs t (omega arith) ∙ rw (h, drop_at (replicate n 0) t n (length-replicate n 0))
 
+pub in_full : (n : ℕ) (xs : List ℕ) → length xs ≡ n → xs ≡ put_bytes n xs []
+in_full n xs h = sym (bytes_whole n xs [] h ∙ append-nil xs)
+
 -- each cell by its place
 bytes_from_lem : (n k : ℕ) (xs t : List ℕ) → put_bytes n (drop k xs) t ≡ bytes_from n k xs ++ t
 bytes_from_lem zero k xs t = refl
@@ -37,60 +42,42 @@ bytes_from_lem (suc n) k xs t =
 pub bytes_cells : (n : ℕ) (xs t : List ℕ) → put_bytes n xs t ≡ bytes_from n 0 xs ++ t
 bytes_cells n = bytes_from_lem n 0
 
--- ## A part lent from a place on
+-- ## The entries of an array, one behind the other
 
--- what is put there stands behind the front that was there, and before what comes behind it
-pub put_behind :
-    (place width : ℕ) (front : List ℕ) (put : List ℕ → List ℕ) (first : List ℕ) {whole new : List ℕ} →
-    length front ≡ place →
-    whole ≡ front ++ drop place first →
-    new ≡ put (drop width (take (length whole - place) (drop place whole))) →
-    put_mid place (length whole - place) whole new ≡ front ++ put (drop (place + width) first)
-put_behind place width front put first {whole} {new} len split put-here =
-    let rest = drop place first in
-    let many : length whole ≡ length front + length rest = ap length split ∙ length-append front rest in
-    let before : take place whole ≡ front = ap (take place) split ∙ take_at front rest place len in
-    let behind : drop place whole ≡ rest = ap (drop place) split ∙ drop_at front rest place len in
-    let left : length whole - place ≡ length rest = omega arith in
-    rw (put-here, before, behind, left, take-length, drop-length, append-nil, drop-drop)
+module _ {A : Type 0} (put : A → List ℕ → List ℕ) (none : A) where
+  pub all_joined :
+      ((a : A) (t : List ℕ) → put a t ≡ put a [] ++ t) →
+      (n : ℕ) (xs : List A) → length xs ≡ n → put_all put none n xs [] ≡ flat_map (λ x. x) (map (λ a. put a []) xs)
+  all_joined in-front zero [] h = refl
+  all_joined in-front zero (x ∷ xs) h = absurd (omega arith)
+  all_joined in-front (suc n) [] h = absurd (omega arith)
+  all_joined in-front (suc n) (x ∷ xs) h =
+      in-front x (put_all put none n xs []) ∙ ap (λ (l : List ℕ). put x [] ++ l) (all_joined in-front n xs (omega arith))
 
--- ## A loop that puts one entry a turn, each of the same width
+-- of one byte each
+pub all_single :
+    {A : Type 0} (code : A → ℕ) (none : A) (n : ℕ) (xs : List A) → length xs ≡ n → put_all (λ x t. code x ∷ t) none n xs [] ≡ map code xs
+all_single code none n xs h =
+    all_joined (λ x t. code x ∷ t) none (λ x t. refl) n xs h ∙ flat_map-map (λ x. x) (λ x. code x ∷ []) xs ∙ flat_map_single code xs
 
-module _
-    {A : Type 0} (put : A → List ℕ → List ℕ) (none : A) (width : ℕ)
-    (in-front : (a : A) (t : List ℕ) → put a t ≡ put a [] ++ t)
-    (wide : (a : A) → length (put a []) ≡ width)
-  where
-    all_in_front : (n : ℕ) (xs : List A) (t : List ℕ) → put_all put none n xs t ≡ put_all put none n xs [] ++ t
-    all_in_front zero xs t = refl
-    all_in_front (suc n) xs t =
-        let x = get_or xs 0 none in
-        let rest = put_all put none n (drop 1 xs) [] in
-        ap (put x) (all_in_front n (drop 1 xs) t) ∙ in-front x (rest ++ t) ∙ sym (append_assoc (put x []) rest t) ∙
-        ap (λ (l : List ℕ). l ++ t) (sym (in-front x rest))
+-- ## Put at places, one behind the other
 
-    all_wide : (n : ℕ) (xs : List A) → length (put_all put none n xs []) ≡ width * n
-    all_wide zero xs = omega arith
-    all_wide (suc n) xs =
-        let x = get_or xs 0 none in
-        let rest = put_all put none n (drop 1 xs) [] in
-        ap length (in-front x rest) ∙ length-append (put x []) rest ∙ rw (wide x, all_wide n (drop 1 xs), mul-suc) (add_comm width (width * n))
+-- what was put so far, and what is as it was behind it
+pub record Begun (front whole bytes : List ℕ) : Type 0 where
+  pub is : bytes ≡ front ++ drop (length front) whole
 
-    one_more : (n : ℕ) (xs : List A) (t : List ℕ) → put_all put none (suc n) xs t ≡ put_all put none n xs (put (get_or xs n none) t)
-    one_more zero xs t = refl
-    one_more (suc n) xs t =
-        ap (put (get_or xs 0 none)) (one_more n (drop 1 xs) t ∙ rw (get_or-drop, one-add))
+pub put_next :
+    (said : List ℕ) {front part whole before after : List ℕ} {place : ℕ} →
+    part ≡ said → Begun front whole before → place ≡ length front →
+    after ≡ take place before ++ (part ++ drop (place + length part) before) →
+    Begun (front ++ said) whole after
+put_next said {front} {part} {whole} {before} {after} {place} e begun at put-here =
+    let rest = drop (length front) whole in
+    let behind : drop (length front + length said) (front ++ rest) ≡ drop (length said) rest =
+    sym (drop-drop (length said) (length front) (front ++ rest)) ∙ ap (drop (length said)) (drop_at front rest (length front) refl)
+    in
+    record { is = put-here ∙ rw (e, at, begun.is, take_at front rest (length front) refl, behind, drop-drop, length-append, append_assoc) }
 
-    -- a turn: the entry is put at its place, in what is left of the part
-    pub put_next :
-        (n place : ℕ) (xs : List A) (whole : List ℕ) {part new : List ℕ} →
-        place ≡ width * n →
-        part ≡ put_all put none n xs (drop (width * n) whole) →
-        new ≡ put (get_or xs n none) (drop width (take (length part - place) (drop place part))) →
-        put_mid place (length part - place) part new ≡ put_all put none (suc n) xs (drop (width * suc n) whole)
-    put_next n place xs whole at before put-here =
-        let entry = get_or xs n none in
-        let next = drop (width * suc n) whole in
-        put_behind place width (put_all put none n xs []) (put entry) whole
-        (all_wide n xs ∙ sym at) (rw at (before ∙ all_in_front n xs (drop (width * n) whole))) put-here ∙
-        rw (at, ← mul-suc) (sym (one_more n xs next ∙ all_in_front n xs (put entry next)))
+-- nothing is left behind so many bytes
+pub ended : (n : ℕ) {front whole bytes : List ℕ} → length front ≡ n → length whole ≡ n → Begun front whole bytes → bytes ≡ front
+ended n {front} {whole} f w begun = begun.is ∙ rw (drop_of_length-le whole {i = length front} (omega arith), append-nil)

@@ -1,11 +1,10 @@
 -- What a call on a slot answers, and the bytes that it leaves.
-use Rattle.std.specs.Prelude.{ℕ, ◌+◌, List, ◌++◌, eqb, leb, drop, length, take}
-use Rattle.gear.specs.declared.answer.Answer.{Answer}
-use Rattle.gear.specs.declared.answer.Answer.TheVariants.{Done, Refused}
+use Rattle.std.specs.Prelude.{ℕ, ◌+◌, List, ◌++◌, eqb, leb, drop, length, take, Ok, Err}
+use Rattle.gear.specs.declared.answer.Reply.TheVariants.{Done}
 use Rattle.gear.specs.declared.answer.Refusal.TheVariants.{Length, Unfit}
 use Rattle.gear.specs.declared.record.Gear.{Gear}
 use Rattle.gear.specs.declared.answer.Outcome.{Outcome}
-use Rattle.gear.specs.Answer.{done, refused}
+use Rattle.gear.specs.Answer.{Answer, done, refused}
 use Rattle.gear.specs.Profile.{no_profile}
 use Rattle.gear.specs.Record.{fitb, new_gear}
 use Rattle.numbers.specs.Numbers.{pick}
@@ -20,7 +19,7 @@ colour_put b place s = pick (leb (place + 14) (length b)) (take place b ++ put_c
 
 -- a slot of another length is refused, and then a record that is not fit
 unfoldable pub stored_answer : List ℕ → Gear → Answer
-stored_answer b g = pick (eqb (length b) 512) (pick (fitb g) Done (Refused Unfit)) (Refused Length)
+stored_answer b g = pick (eqb (length b) 512) (pick (fitb g) (Ok Done) (Err Unfit)) (Err Length)
 
 -- nothing is written where the call is refused
 unfoldable pub stored_bytes : List ℕ → Gear → List ℕ

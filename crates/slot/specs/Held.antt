@@ -89,7 +89,3 @@ Does rule b b' = (g : Gear) → Holds b g → Holds b' (rule g)
 -- it answers what the rule says of the record
 abbrev pub Tells : {A : Type 0} → (Gear → A) → List ℕ → A → Type 0
 Tells rule b r = (g : Gear) → Holds b g → r ≡ rule g
-
--- no byte of a range is above a limit exactly when the highest one is not
-abbrev pub Highest : List ℕ → ℕ → ℕ → ℕ → Type 0
-Highest b from count r = (l : ℕ) → leb r l ≡ at_most (replicate count l) (drop from b)

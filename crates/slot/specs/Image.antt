@@ -1,16 +1,10 @@
 -- One record as 512 bytes (docs/SLOT.md has the layout as a table). Each encoder puts its bytes in front of those that follow.
-use Rattle.std.specs.Prelude.{ℕ, zero, suc, ◌/◌, ◌%◌, Bool, false, List, ◌∷◌, drop, get_or, replicate, take}
+use Rattle.std.specs.Prelude.{ℕ, zero, suc, ◌/◌, ◌%◌, Bool, false, List, ◌∷◌, drop, get_or, replicate, take, Option, is_some, unwrap_or}
 use Rattle.bank.specs.declared.build.Banks.{Banks}
 use Rattle.colour.specs.declared.record.Colour.{Colour}
 use Rattle.colour.specs.declared.setting.ColourSetting.{ColourSetting}
 use Rattle.colour.specs.declared.tint.Tint.{Tint}
 use Rattle.colour.specs.Tint.{colour_type_byte}
-use Rattle.gear.specs.declared.marks.Pair.{Pair}
-use Rattle.gear.specs.declared.marks.Pair.TheVariants.{Closed, Open}
-use Rattle.gear.specs.declared.marks.Walk.{Walk}
-use Rattle.gear.specs.declared.marks.Walk.TheVariants.{Off, At}
-use Rattle.gear.specs.declared.profile.Short.{Short}
-use Rattle.gear.specs.declared.profile.Short.TheVariants.{Missing, Address}
 use Rattle.gear.specs.declared.record.Gear.{Gear}
 use Rattle.gear.specs.declared.settings.LevelSetting.{LevelSetting}
 use Rattle.gear.specs.Scene.{nowhere}
@@ -22,23 +16,19 @@ abbrev pub flag_byte : Bool → ℕ
 flag_byte b = pick b 1 0
 
 -- 64 is no address, so that no address above 63 has a byte
-abbrev pub short_byte : Short → ℕ
-short_byte Missing = 64
-short_byte (Address a) = a
+abbrev pub short_byte : Option ℕ → ℕ
+short_byte s = unwrap_or s 64
 
 -- 17 is off, so that no walk past 16 has a byte
-abbrev pub walk_byte : Walk → ℕ
-walk_byte Off = 17
-walk_byte (At n) = n
+abbrev pub walk_byte : Option ℕ → ℕ
+walk_byte w = unwrap_or w 17
 
-abbrev pub open_flag : Pair → ℕ
-open_flag Closed = 0
-open_flag (Open frame) = 1
+abbrev pub open_flag : Option ℕ → ℕ
+open_flag p = flag_byte (is_some p)
 
 -- a closed pair has frame 0
-abbrev pub open_frame : Pair → ℕ
-open_frame Closed = 0
-open_frame (Open frame) = frame
+abbrev pub open_frame : Option ℕ → ℕ
+open_frame p = unwrap_or p 0
 
 -- ## Encoders
 

@@ -1,5 +1,6 @@
 -- What 512 bytes say, each at its place: the way back from an image to its record.
-use Rattle.std.specs.Prelude.{ℕ, zero, suc, ◌+◌, ◌*◌, Bool, List, [], ◌∷◌, eqb, ltb, drop, get_or, take}
+use Rattle.std.specs.Prelude.{ℕ, zero, suc, ◌+◌, ◌*◌, Bool, List, [], ◌∷◌, eqb, ltb, drop, get_or, take, Option}
+use Rattle.std.specs.Bool.{then_some}
 use Rattle.bank.specs.declared.build.Banks.{Banks}
 use Rattle.colour.specs.declared.limits.Limits.{Limits}
 use Rattle.colour.specs.declared.record.Colour.{Colour}
@@ -10,12 +11,6 @@ use Rattle.colour.specs.declared.tint.Tint.{Tint}
 use Rattle.colour.specs.Limits.{range}
 use Rattle.gear.specs.declared.condition.Condition.{Condition}
 use Rattle.gear.specs.declared.marks.Marks.{Marks}
-use Rattle.gear.specs.declared.marks.Pair.{Pair}
-use Rattle.gear.specs.declared.marks.Pair.TheVariants.{Closed, Open}
-use Rattle.gear.specs.declared.marks.Walk.{Walk}
-use Rattle.gear.specs.declared.marks.Walk.TheVariants.{Off, At}
-use Rattle.gear.specs.declared.profile.Short.{Short}
-use Rattle.gear.specs.declared.profile.Short.TheVariants.{Missing, Address}
 use Rattle.gear.specs.declared.profile.Unit.{Unit}
 use Rattle.gear.specs.declared.record.Gear.{Gear}
 use Rattle.gear.specs.declared.settings.LevelSetting.{LevelSetting}
@@ -35,14 +30,14 @@ flag_at k b = eqb (at k b) 1
 abbrev pub word_at : ℕ → List ℕ → ℕ
 word_at k b = at k b + 256 * at (k + 1) b
 
-abbrev pub short_of : ℕ → Short
-short_of n = pick (ltb n 64) (Address n) Missing
+abbrev pub short_of : ℕ → Option ℕ
+short_of n = then_some (ltb n 64) n
 
-abbrev pub walk_of : ℕ → Walk
-walk_of n = pick (ltb n 17) (At n) Off
+abbrev pub walk_of : ℕ → Option ℕ
+walk_of n = then_some (ltb n 17) n
 
-abbrev pub pair_of : Bool → ℕ → Pair
-pair_of waits frame = pick waits (Open frame) Closed
+abbrev pub pair_of : Bool → ℕ → Option ℕ
+pair_of waits frame = then_some waits frame
 
 -- any byte but the three types is no mode
 abbrev pub mode_of : ℕ → ColorMode

@@ -1,16 +1,15 @@
 // Bytes, words and arrays at the front of a part of a slot.
-ghost use Rattle.std.specs.Prelude.{◌≡◌, ◌≤◌, length};
+ghost use Rattle.std.specs.Prelude.{◌≡◌, ◌+◌, ◌^◌, ◌<◌, drop};
 ghost use Rattle.slot.specs.Image.{flag_byte};
 ghost use Rattle.slot.specs.Record.{at, flag_at, word_at, bytes_from};
+
+use std::array;
 
 // Past the end stands 0.
 pub fn byte(part: &[u8], place: usize) -> u8
     ensures { result ≡ at place part.now }
 {
-    if place < part.len() {
-        return part[place];
-    }
-    0
+    part.get(place).copied().unwrap_or(0)
 }
 
 pub fn flag(part: &[u8], place: usize) -> bool
@@ -23,28 +22,28 @@ pub fn flag(part: &[u8], place: usize) -> bool
 pub fn flag_byte(yes: bool) -> u8
     ensures { result ≡ flag_byte yes }
 {
-    if yes {
-        return 1;
-    }
-    0
+    u8::from(yes)
 }
 
 // Two bytes, low byte first.
 pub fn word(part: &[u8], place: u16) -> u16
     ensures { result ≡ word_at place part.now }
 {
-    let low = place as usize;
-    byte(part, low) as u16 + 256 * byte(part, low + 1) as u16
+    let low = usize::from(place);
+    u16::from_le_bytes([byte(part, low), byte(part, low + 1)])
 }
 
-// As many bytes from a place on as there is room for.
-pub(crate) fn copy(part: &[u8], place: usize, out: &mut [u8])
-    requires { (place ≤ 512) × (length out.old ≤ 512) }
-    ensures { out.new ≡ bytes_from (length out.old) place part.now }
+// So many bytes from a place on.
+pub(crate) fn bytes_from<const N: usize>(part: &[u8], place: usize) -> [u8; N]
+    requires { place + N < 2 ^ 64 }
+    ensures { result ≡ bytes_from N place part.now }
 {
-    let mut i: usize = 0;
-    while i < out.len() {
-        out[i] = byte(part, place + i);
-        i += 1;
-    }
+    array::from_fn(|i| byte(part, place + i))
+}
+
+// All bytes from a place on, none where they end before it.
+pub(crate) fn behind(part: &[u8], place: usize) -> &[u8]
+    ensures { result.now ≡ drop place part.now }
+{
+    part.get(place..).unwrap_or(&[])
 }

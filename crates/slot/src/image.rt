@@ -1,154 +1,64 @@
-// The image of a record: each function writes at the front of a part, and leaves what stands behind.
-ghost use Rattle.std.specs.Prelude.{◌≡◌, ◌++◌, ◌∷◌, ◌≤◌, length, drop, take, replicate};
-ghost use Rattle.colour.specs.Tint.{colour_type_byte};
-ghost use Rattle.gear.specs.Scene.{nowhere};
+// The image of a record: its parts as arrays of bytes, each put at its place.
+ghost use Rattle.std.specs.Prelude.{◌≡◌, ◌+◌, ◌++◌, [], ◌≤◌, length, drop, take};
 ghost use Rattle.slot.specs.Calls.{colour_put, record_of, stored_answer, stored_bytes};
-ghost use Rattle.slot.specs.Image.{flag_byte, image_of, open_flag, open_frame, put_all, put_banks, put_bytes, put_colour, put_colours, put_flags, put_front, put_marks, put_numbers, put_setting, put_settings, short_byte, typed, walk_byte};
+ghost use Rattle.slot.specs.Image.{image_of, put_bytes, put_colour, put_flags, put_front, put_marks, put_numbers, put_setting};
 
-use crate::parts::gear_of;
+use crate::parts::{NO_ADDRESS, WALK_OFF, gear_of};
 use crate::test::{SIZE, is_held};
-use bank::build::Banks;
-use colour::record::Colour;
 use colour::setting::ColourSetting;
-use colour::tint::{ColorMode, Tint};
-use gear::answer::{Answer, Outcome, Refusal, done, refused};
-use gear::marks::{Pair, Walk};
-use gear::profile::{Profile, Short};
+use gear::answer::{Answer, Outcome, Refusal, Reply, done, refused};
+use gear::profile::{Profile, Unit};
 use gear::record::Gear;
 use gear::settings::LevelSetting;
 
-// A walk that is off is 17.
-fn walk_byte(walk: Walk) -> u8
-    ensures { result ≡ walk_byte walk }
+// Places 0 to 15.
+fn front_bytes(gear: Gear) -> [u8; 16]
+    ensures { result ≡ put_front gear [] }
 {
-    match walk {
-        Walk::Off => 17,
-        Walk::At(next) => next,
-    }
-}
-
-// A missing address is 64.
-fn short_byte(short: Short) -> u8
-    ensures { result ≡ short_byte short }
-{
-    match short {
-        Short::Missing => 64,
-        Short::Address(address) => address,
-    }
-}
-
-fn open_flag(pair: Pair) -> u8
-    ensures { result ≡ open_flag pair }
-{
-    match pair {
-        Pair::Closed => 0,
-        Pair::Open(_) => 1,
-    }
-}
-
-// A closed pair has frame 0.
-fn open_frame(pair: Pair) -> u16
-    ensures { result ≡ open_frame pair }
-{
-    match pair {
-        Pair::Closed => 0,
-        Pair::Open(frame) => frame,
-    }
-}
-
-// The type byte of a mode.
-fn kind_of(mode: ColorMode) -> u8
-    ensures { result ≡ colour_type_byte mode }
-{
-    match mode {
-        ColorMode::None => ColourSetting::MASK,
-        ColorMode::Xy => ColourSetting::XY,
-        ColorMode::Cct => ColourSetting::TC,
-        ColorMode::Rgb => ColourSetting::RGBWAF,
-    }
-}
-
-fn put_bytes(part: &mut [u8], from: &[u8])
-    requires { length from.now ≤ length part.old }
-    ensures { part.new ≡ from.now ++ drop (length from.now) part.old }
-{
-    let mut i: usize = 0;
-    while i < from.len() {
-        part[i] = from[i];
-        i += 1;
-    }
-}
-
-fn put_flag(part: &mut [u8], yes: bool)
-    requires { 1 ≤ length part.old }
-    ensures { part.new ≡ flag_byte yes ∷ drop 1 part.old }
-{
-    part[0] = yes as u8;
-}
-
-fn put_groups(part: &mut [u8], groups: [bool; 16])
-    requires { 16 ≤ length part.old }
-    ensures { part.new ≡ put_flags 16 groups (drop 16 part.old) }
-{
-    let mut i: usize = 0;
-    while i < 16 {
-        put_flag(&mut part[i..], groups[i]);
-        i += 1;
-    }
-}
-
-// The codes of the list of types, and zeros behind them.
-fn put_types(part: &mut [u8], types: [u8; 16], count: u8)
-    requires { 16 ≤ length part.old }
-    ensures { part.new ≡ put_bytes 16 (take count types) (drop 16 part.old) }
-{
-    let spare: [u8; 16] = [0; 16];
-    let many = count as usize;
-    put_bytes(part, &spare);
-    if many < 16 {
-        put_bytes(part, &types[..many]);
-    } else {
-        put_bytes(part, &types);
-    }
-}
-
-fn put_front(part: &mut [u8], gear: Gear)
-    requires { 16 ≤ length part.old }
-    ensures { part.new ≡ put_front gear (drop 16 part.old) }
-{
-    let marks = gear.marks;
-    let walk = marks.walk;
     let unit = gear.unit;
-    let short = unit.short;
-    let random = unit.random;
-    let bytes: [u8; 16] = [
+    let [random0, random1, random2, random3] = unit.random.to_le_bytes();
+    [
         gear.levels.level,
         gear.levels.last,
         gear.levels.min,
         gear.levels.max,
         unit.minimum,
-        walk_byte(walk),
-        short_byte(short),
+        gear.marks.walk.unwrap_or(WALK_OFF),
+        unit.short.unwrap_or(NO_ADDRESS),
         unit.count,
-        (random % 256) as u8,
-        (random / 256 % 256) as u8,
-        (random / 65536 % 256) as u8,
-        (random / 16777216) as u8,
+        random0,
+        random1,
+        random2,
+        random3,
         gear.colour.can.channels,
         gear.settings.fades.time,
         gear.settings.fades.rate,
         gear.settings.fades.extended,
-    ];
-    put_bytes(part, &bytes);
+    ]
 }
 
-fn put_marks(part: &mut [u8], gear: Gear)
-    requires { 19 ≤ length part.old }
-    ensures { part.new ≡ put_marks gear (drop 19 part.old) }
+// The codes of the list of types, and zeros behind them.
+fn types_bytes(unit: Unit) -> [u8; 16]
+    ensures { result ≡ put_bytes 16 (take unit.count unit.types) [] }
+{
+    let many = usize::from(unit.count).min(16);
+    let mut bytes = [0; 16];
+    bytes[..many].copy_from_slice(&unit.types[..many]);
+    bytes
+}
+
+fn groups_bytes(groups: [bool; 16]) -> [u8; 16]
+    ensures { result ≡ put_flags 16 groups [] }
+{
+    groups.map(|yes| yes as u8)
+}
+
+// Places 48 to 66.
+fn marks_bytes(gear: Gear) -> [u8; 19]
+    ensures { result ≡ put_marks gear [] }
 {
     let marks = gear.marks;
-    let pair = marks.pair;
-    let bytes: [u8; 19] = [
+    [
         gear.levels.error as u8,
         marks.reset as u8,
         marks.cycled as u8,
@@ -156,7 +66,7 @@ fn put_marks(part: &mut [u8], gear: Gear)
         marks.withdrawn as u8,
         marks.identifying as u8,
         marks.writable as u8,
-        open_flag(pair),
+        marks.pair.is_some() as u8,
         gear.unit.adjustable as u8,
         gear.unit.holds as u8,
         gear.unit.bare as u8,
@@ -168,200 +78,134 @@ fn put_marks(part: &mut [u8], gear: Gear)
         gear.condition.lamp.starting as u8,
         gear.condition.faults.unstored as u8,
         gear.condition.faults.holds as u8,
-    ];
-    put_bytes(part, &bytes);
+    ]
 }
 
-fn put_numbers(part: &mut [u8], gear: Gear)
-    requires { 16 ≤ length part.old }
-    ensures { part.new ≡ put_numbers gear (drop 16 part.old) }
+// Places 67 to 82.
+fn numbers_bytes(gear: Gear) -> [u8; 16]
+    ensures { result ≡ put_numbers gear [] }
 {
-    let marks = gear.marks;
-    let pair = marks.pair;
-    let frame = open_frame(pair);
+    // 0 where no frame waits.
+    let frame = gear.marks.pair.unwrap_or(0);
     let faults = gear.condition.faults;
     let limits = gear.colour.limits;
-    let bytes: [u8; 16] = [
+    let [drop_low, drop_high] = faults.drop.to_le_bytes();
+    let [frame_low, frame_high] = frame.to_le_bytes();
+    let [coolest_low, coolest_high] = limits.stored.coolest.to_le_bytes();
+    let [warmest_low, warmest_high] = limits.stored.warmest.to_le_bytes();
+    let [physical_coolest_low, physical_coolest_high] = limits.physical.coolest.to_le_bytes();
+    let [physical_warmest_low, physical_warmest_high] = limits.physical.warmest.to_le_bytes();
+    [
         gear.colour.features,
         gear.settings.curve,
         faults.forced,
         faults.failure,
-        (faults.drop % 256) as u8,
-        (faults.drop / 256) as u8,
-        (frame % 256) as u8,
-        (frame / 256) as u8,
-        (limits.stored.coolest % 256) as u8,
-        (limits.stored.coolest / 256) as u8,
-        (limits.stored.warmest % 256) as u8,
-        (limits.stored.warmest / 256) as u8,
-        (limits.physical.coolest % 256) as u8,
-        (limits.physical.coolest / 256) as u8,
-        (limits.physical.warmest % 256) as u8,
-        (limits.physical.warmest / 256) as u8,
-    ];
-    put_bytes(part, &bytes);
+        drop_low,
+        drop_high,
+        frame_low,
+        frame_high,
+        coolest_low,
+        coolest_high,
+        warmest_low,
+        warmest_high,
+        physical_coolest_low,
+        physical_coolest_high,
+        physical_warmest_low,
+        physical_warmest_high,
+    ]
 }
 
-fn put_colour(part: &mut [u8], setting: ColourSetting)
-    requires { 14 ≤ length part.old }
-    ensures { part.new ≡ put_colour setting (drop 14 part.old) }
+// x, y and Tc, the channels' levels, the control and the type.
+fn colour_bytes(setting: ColourSetting) -> [u8; 14]
+    ensures { result ≡ put_colour setting [] }
 {
-    let levels = setting.levels;
-    let bytes: [u8; 14] = [
-        (setting.x % 256) as u8,
-        (setting.x / 256) as u8,
-        (setting.y % 256) as u8,
-        (setting.y / 256) as u8,
-        (setting.tc % 256) as u8,
-        (setting.tc / 256) as u8,
-        levels[0],
-        levels[1],
-        levels[2],
-        levels[3],
-        levels[4],
-        levels[5],
+    let [x_low, x_high] = setting.x.to_le_bytes();
+    let [y_low, y_high] = setting.y.to_le_bytes();
+    let [tc_low, tc_high] = setting.tc.to_le_bytes();
+    let [level0, level1, level2, level3, level4, level5] = setting.levels;
+    [
+        x_low,
+        x_high,
+        y_low,
+        y_high,
+        tc_low,
+        tc_high,
+        level0,
+        level1,
+        level2,
+        level3,
+        level4,
+        level5,
         setting.control,
         setting.kind,
-    ];
-    put_bytes(part, &bytes);
+    ]
+}
+
+// The level behind its colour.
+fn setting_bytes(setting: LevelSetting) -> [u8; 15]
+    ensures { result ≡ put_setting setting [] }
+{
+    let mut bytes = [0; 15];
+    bytes[..14].copy_from_slice(&colour_bytes(setting.colour));
+    bytes[14] = setting.level;
+    bytes
+}
+
+// So many bytes at a place. What stands around them stays.
+fn put(slot: &mut [u8], place: usize, bytes: &[u8])
+    requires { place + length bytes.now ≤ length slot.old }
+    ensures { slot.new ≡ take place slot.old ++ (bytes.now ++ drop (place + length bytes.now) slot.old) }
+{
+    slot[place..place + bytes.len()].copy_from_slice(bytes);
 }
 
 // The colour at a place of a slot; nothing where it has no room there.
+#[tactic(auto, unfolding(crate::specs::Calls::colour_put))]
 pub fn put_colour_at(slot: &mut [u8], place: usize, setting: ColourSetting)
     ensures { slot.new ≡ colour_put slot.old place setting }
 {
-    if slot.len() < place {
-        return;
+    if slot.len().saturating_sub(place) >= 14 {
+        put(slot, place, &colour_bytes(setting));
     }
-    if slot.len() - place < 14 {
-        return;
-    }
-    put_colour(&mut slot[place..], setting);
-}
-
-fn put_tint(part: &mut [u8], tint: Tint)
-    requires { 14 ≤ length part.old }
-    ensures { part.new ≡ put_colour (typed tint) (drop 14 part.old) }
-{
-    let mode = tint.mode;
-    let levels = tint.levels;
-    let setting = ColourSetting {
-        kind: kind_of(mode),
-        control: tint.control,
-        x: tint.x,
-        y: tint.y,
-        tc: tint.tc,
-        levels: levels,
-    };
-    put_colour(part, setting);
-}
-
-fn put_colours(part: &mut [u8], colour: Colour)
-    requires { 42 ≤ length part.old }
-    ensures { part.new ≡ put_colours colour (drop 42 part.old) }
-{
-    let active = colour.active;
-    let pending = colour.pending;
-    let report = colour.report;
-    put_tint(part, active);
-    put_tint(&mut part[14..], pending);
-    put_colour(&mut part[28..], report);
-}
-
-fn put_setting(part: &mut [u8], setting: LevelSetting)
-    requires { 15 ≤ length part.old }
-    ensures { part.new ≡ put_setting setting (drop 15 part.old) }
-{
-    let colour = setting.colour;
-    put_colour(part, colour);
-    part[14] = setting.level;
-}
-
-fn put_scenes(part: &mut [u8], scenes: [LevelSetting; 16])
-    requires { 240 ≤ length part.old }
-    ensures { part.new ≡ put_all put_setting nowhere 16 scenes (drop 240 part.old) }
-{
-    let mut i: usize = 0;
-    while i < 16 {
-        let place = 15 * i;
-        put_setting(&mut part[place..], scenes[i]);
-        i += 1;
-    }
-}
-
-fn put_settings(part: &mut [u8], gear: Gear)
-    requires { 270 ≤ length part.old }
-    ensures { part.new ≡ put_settings gear (drop 270 part.old) }
-{
-    let on = gear.settings.on;
-    let failure = gear.settings.failure;
-    let scenes = gear.scenes;
-    put_setting(part, on);
-    put_setting(&mut part[15..], failure);
-    put_scenes(&mut part[30..], scenes);
-}
-
-fn put_banks(part: &mut [u8], banks: Banks)
-    requires { 46 ≤ length part.old }
-    ensures { part.new ≡ put_banks banks (drop 46 part.old) }
-{
-    let identity = banks.identity;
-    let profile = banks.profile;
-    put_bytes(part, &identity);
-    put_bytes(&mut part[29..], &profile);
-}
-
-// Places 0 to 82.
-fn put_head(part: &mut [u8], gear: Gear)
-    requires { 83 ≤ length part.old }
-    ensures { part.new ≡ put_front gear (put_bytes 16 (take gear.unit.count gear.unit.types) (put_flags 16 gear.settings.groups (put_marks gear (put_numbers gear (drop 83 part.old))))) }
-{
-    let types = gear.unit.types;
-    let groups = gear.settings.groups;
-    put_front(part, gear);
-    put_types(&mut part[16..], types, gear.unit.count);
-    put_groups(&mut part[32..], groups);
-    put_marks(&mut part[48..], gear);
-    put_numbers(&mut part[67..], gear);
-}
-
-// Places 83 to 511, the spare bytes among them.
-fn put_tail(part: &mut [u8], gear: Gear)
-    requires { length part.old ≡ 429 }
-    ensures { part.new ≡ put_colours gear.colour (put_settings gear (put_banks gear.banks (replicate 71 0))) }
-{
-    let colour = gear.colour;
-    let banks = gear.banks;
-    let spare: [u8; 71] = [0; 71];
-    put_colours(part, colour);
-    put_settings(&mut part[42..], gear);
-    put_banks(&mut part[312..], banks);
-    put_bytes(&mut part[358..], &spare);
 }
 
 pub(crate) fn put_image(slot: &mut [u8], gear: Gear)
     requires { length slot.old ≡ 512 }
     ensures { slot.new ≡ image_of gear }
 {
-    put_head(slot, gear);
-    put_tail(&mut slot[83..], gear);
+    put(slot, 0, &front_bytes(gear));
+    put(slot, 16, &types_bytes(gear.unit));
+    put(slot, 32, &groups_bytes(gear.settings.groups));
+    put(slot, 48, &marks_bytes(gear));
+    put(slot, 67, &numbers_bytes(gear));
+    put(slot, 83, &colour_bytes(gear.colour.active.face()));
+    put(slot, 97, &colour_bytes(gear.colour.pending.face()));
+    put(slot, 111, &colour_bytes(gear.colour.report));
+    put(slot, 125, &setting_bytes(gear.settings.on));
+    put(slot, 140, &setting_bytes(gear.settings.failure));
+    put(slot, 155, gear.scenes.map(setting_bytes).as_flattened());
+    put(slot, 395, &gear.banks.identity);
+    put(slot, 424, &gear.banks.profile);
+    put(slot, 441, &[0; 71]);
 }
 
 // The image of a fit record. A slot of another length is refused, and then a record that is not fit; neither writes anything.
+#[tactic(auto, unfolding(crate::specs::Calls::stored_answer, crate::specs::Calls::stored_bytes))]
 pub fn store(slot: &mut [u8], gear: Gear) -> Answer
     ensures { (result ≡ stored_answer slot.old gear) × (slot.new ≡ stored_bytes slot.old gear) }
 {
     if slot.len() == SIZE {
         if gear.fit() {
             put_image(slot, gear);
-            return Answer::Done;
+            return Ok(Reply::Done);
         }
-        return Answer::Refused(Refusal::Unfit);
+        return Err(Refusal::Unfit);
     }
-    Answer::Refused(Refusal::Length)
+    Err(Refusal::Length)
 }
 
 // The record of an image. Where the slot is refused, it comes with a record that no call accepts.
+#[tactic(auto, unfolding(crate::specs::Calls::record_of))]
 pub fn record_of(slot: &[u8]) -> Outcome
     ensures { result ≡ record_of slot.now }
 {

@@ -1,63 +1,48 @@
 // Parts of a record, as they stand in a slot.
 ghost use Rattle.std.specs.Prelude.{◌≡◌, drop};
-ghost use Rattle.slot.specs.Record.{banks_of, bytes_from, colour_in, colour_of, condition_of, flags_from, gear_of, levels_of, limits_of, marks_of, mode_of, pair_of, setting_in, settings_in, settings_of, short_of, tint_of, unit_of, walk_of};
+ghost use Rattle.slot.specs.Record.{banks_of, bytes_from, colour_in, colour_of, condition_of, flags_from, gear_of, levels_of, limits_of, marks_of, mode_of, setting_in, settings_in, settings_of, short_of, tint_of, unit_of, walk_of};
 
-use crate::bytes::{byte, copy, flag, word};
+use crate::bytes::{behind, byte, bytes_from, flag, word};
 use bank::build::Banks;
 use colour::limits::{Limits, Range};
 use colour::record::{Capabilities, Colour};
 use colour::setting::ColourSetting;
 use colour::tint::{ColorMode, Tint};
 use gear::condition::{Condition, Faults, Lamp};
-use gear::marks::{Marks, Pair, Walk};
-use gear::profile::{Short, Unit};
+use gear::marks::Marks;
+use gear::profile::Unit;
 use gear::record::Gear;
 use gear::settings::{Fades, LevelSetting, Settings};
 use level::levels::Levels;
+use std::array;
 
-// 64 is no address.
-pub fn short_of(number: u8) -> Short
+// The bytes that stand for no short address and for no walk: each is past the last that has a meaning.
+pub(crate) const NO_ADDRESS: u8 = 64;
+
+pub const WALK_OFF: u8 = 17;
+
+pub fn short_of(number: u8) -> Option<u8>
     ensures { result ≡ short_of number }
 {
-    if number < 64 {
-        return Short::Address(number);
-    }
-    Short::Missing
+    (number < NO_ADDRESS).then_some(number)
 }
 
-// 17 is off.
-fn walk_of(number: u8) -> Walk
+fn walk_of(number: u8) -> Option<u8>
     ensures { result ≡ walk_of number }
 {
-    if number < 17 {
-        return Walk::At(number);
-    }
-    Walk::Off
-}
-
-fn pair_of(waits: bool, frame: u16) -> Pair
-    ensures { result ≡ pair_of waits frame }
-{
-    if waits {
-        return Pair::Open(frame);
-    }
-    Pair::Closed
+    (number < WALK_OFF).then_some(number)
 }
 
 // The mode of a type byte.
 pub fn mode_of(kind: u8) -> ColorMode
     ensures { result ≡ mode_of kind }
 {
-    if kind == ColourSetting::XY {
-        return ColorMode::Xy;
+    match kind {
+        ColourSetting::XY => ColorMode::Xy,
+        ColourSetting::TC => ColorMode::Cct,
+        ColourSetting::RGBWAF => ColorMode::Rgb,
+        _ => ColorMode::None,
     }
-    if kind == ColourSetting::TC {
-        return ColorMode::Cct;
-    }
-    if kind == ColourSetting::RGBWAF {
-        return ColorMode::Rgb;
-    }
-    ColorMode::None
 }
 
 pub fn levels_of(slot: &[u8]) -> Levels
@@ -97,14 +82,7 @@ fn colour_in(part: &[u8]) -> ColourSetting
         x: word(part, 0),
         y: word(part, 2),
         tc: word(part, 4),
-        levels: [
-            byte(part, 6),
-            byte(part, 7),
-            byte(part, 8),
-            byte(part, 9),
-            byte(part, 10),
-            byte(part, 11),
-        ],
+        levels: bytes_from(part, 6),
     }
 }
 
@@ -112,15 +90,21 @@ fn colour_in(part: &[u8]) -> ColourSetting
 fn tint_in(part: &[u8]) -> Tint
     ensures { result ≡ tint_of (colour_in part.now) }
 {
-    let setting = colour_in(part);
-    let levels = setting.levels;
+    let ColourSetting {
+        kind,
+        control,
+        x,
+        y,
+        tc,
+        levels,
+    } = colour_in(part);
     Tint {
-        mode: mode_of(setting.kind),
-        x: setting.x,
-        y: setting.y,
-        tc: setting.tc,
-        levels: levels,
-        control: setting.control,
+        mode: mode_of(kind),
+        x,
+        y,
+        tc,
+        levels,
+        control,
     }
 }
 
@@ -132,16 +116,6 @@ fn setting_in(part: &[u8]) -> LevelSetting
         colour: colour_in(part),
         level: byte(part, 14),
     }
-}
-
-// The bytes from a place on, none where they end before it.
-fn behind(slot: &[u8], place: usize) -> &[u8]
-    ensures { result.now ≡ drop place slot.now }
-{
-    if place <= slot.len() {
-        return &slot[place..];
-    }
-    &slot[slot.len()..]
 }
 
 pub fn colour_at(slot: &[u8], place: usize) -> ColourSetting
@@ -162,26 +136,13 @@ pub fn setting_at(slot: &[u8], place: usize) -> LevelSetting
     setting_in(behind(slot, place))
 }
 
-// The codes of the list of types, and zeros behind them.
-fn types_of(slot: &[u8]) -> [u8; 16]
-    ensures { result ≡ bytes_from 16 16 slot.now }
-{
-    let mut types: [u8; 16] = [0; 16];
-    copy(slot, 16, &mut types);
-    types
-}
-
 pub fn unit_of(slot: &[u8]) -> Unit
     ensures { result ≡ unit_of slot.now }
 {
-    let random = byte(slot, 8) as u32
-        + 256 * byte(slot, 9) as u32
-        + 65536 * byte(slot, 10) as u32
-        + 16777216 * byte(slot, 11) as u32;
     Unit {
         short: short_of(byte(slot, 6)),
-        random: random,
-        types: types_of(slot),
+        random: u32::from_le_bytes(bytes_from(slot, 8)),
+        types: bytes_from(slot, 16),
         count: byte(slot, 7),
         adjustable: flag(slot, 56),
         holds: flag(slot, 57),
@@ -195,7 +156,7 @@ pub fn marks_of(slot: &[u8]) -> Marks
 {
     Marks {
         walk: walk_of(byte(slot, 5)),
-        pair: pair_of(flag(slot, 55), word(slot, 73)),
+        pair: flag(slot, 55).then_some(word(slot, 73)),
         reset: flag(slot, 49),
         cycled: flag(slot, 50),
         initialise: flag(slot, 51),
@@ -245,37 +206,16 @@ pub fn condition_of(slot: &[u8]) -> Condition
 fn banks_of(slot: &[u8]) -> Banks
     ensures { result ≡ banks_of slot.now }
 {
-    let mut identity: [u8; 29] = [0; 29];
-    let mut profile: [u8; 17] = [0; 17];
-    copy(slot, 395, &mut identity);
-    copy(slot, 424, &mut profile);
     Banks {
-        identity: identity,
-        profile: profile,
+        identity: bytes_from(slot, 395),
+        profile: bytes_from(slot, 424),
     }
 }
 
 pub fn groups_of(slot: &[u8]) -> [bool; 16]
     ensures { result ≡ flags_from 16 32 slot.now }
 {
-    [
-        flag(slot, 32),
-        flag(slot, 33),
-        flag(slot, 34),
-        flag(slot, 35),
-        flag(slot, 36),
-        flag(slot, 37),
-        flag(slot, 38),
-        flag(slot, 39),
-        flag(slot, 40),
-        flag(slot, 41),
-        flag(slot, 42),
-        flag(slot, 43),
-        flag(slot, 44),
-        flag(slot, 45),
-        flag(slot, 46),
-        flag(slot, 47),
-    ]
+    array::from_fn(|i| flag(slot, 32 + i))
 }
 
 fn settings_of(slot: &[u8]) -> Settings
@@ -297,13 +237,7 @@ fn settings_of(slot: &[u8]) -> Settings
 fn scenes_of(slot: &[u8]) -> [LevelSetting; 16]
     ensures { result ≡ settings_in 16 (drop 155 slot.now) }
 {
-    let mut scenes: [LevelSetting; 16] = [LevelSetting::unset(); 16];
-    let mut i: usize = 0;
-    while i < 16 {
-        scenes[i] = setting_at(slot, 155 + 15 * i);
-        i += 1;
-    }
-    scenes
+    array::from_fn(|i| setting_at(slot, 155 + 15 * i))
 }
 
 // The record that the bytes say.

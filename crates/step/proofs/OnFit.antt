@@ -19,6 +19,7 @@ use Rattle.colour.specs.Steps.{store_tc_limit, tc_step}
 use Rattle.colour.specs.Value.{color_value}
 use Rattle.gear.specs.Answer.{done, location_answer, refused, value_answer}
 use Rattle.gear.specs.declared.answer.Refusal.TheVariants.{Byte}
+use Rattle.std.specs.Prelude.{Option}
 use Rattle.gear.specs.declared.command.StandardCommand.{StandardCommand}
 use Rattle.gear.specs.declared.record.Gear.{Gear}
 use Rattle.gear.specs.Parts.{with_banks, with_colour}
@@ -41,8 +42,8 @@ module _ (g : Gear) (fit : fitb g ≡ true) (a b c : ℕ) where
       (λ e. let other = eqb-false kind 0 e in let one : kind ≡ 1 = omega arith in rw one (rw fit refl))
 
   -- x is what the byte says, and y what x is
-  pub at_write : {kind : ℕ} {x y : StandardCommand} → kind < 2 → x ≡ command_at kind a → x ≡ y → step g kind a b c ≡ write g y b
-  at_write {kind} h e f = write_at kind h ∙ ap (λ (z : StandardCommand). write g z b) (sym e ∙ f)
+  pub at_write : {kind : ℕ} {x y : Option StandardCommand} → kind < 2 → x ≡ command_at kind a → x ≡ y → step g kind a b c ≡ write g y b
+  at_write {kind} h e f = write_at kind h ∙ ap (λ (z : Option StandardCommand). write g z b) (sym e ∙ f)
 
   pub at_query : {kind : ℕ} → kind ≡ 2 → step g kind a b c ≡ query g a
   unfolding step gear_query_reply serve

@@ -9,8 +9,9 @@ use borrow.Author.Tests.{lt-leb}
 use Rattle.gear.specs.Command.{command_of, level_command, config_command}
 use Rattle.gear.specs.declared.command.ConfigCommand.{ConfigCommand}
 use Rattle.gear.specs.declared.command.ConfigCommand.TheVariants.{SetMaxLevel, SetMinLevel, SetSystemFailureLevel, SetPowerOnLevel, SetFadeTime, SetFadeRate, SetExtendedFadeTime, SetScene, RemoveScene, AddToGroup, RemoveFromGroup}
+use Rattle.std.specs.Prelude.{Option, Some, None}
 use Rattle.gear.specs.declared.command.StandardCommand.{StandardCommand}
-use Rattle.gear.specs.declared.command.StandardCommand.TheVariants.{Arc, GoToScene, Reset, IdentifyDevice, Config, EnableWriteMemory, Unknown}
+use Rattle.gear.specs.declared.command.StandardCommand.TheVariants.{Arc, GoToScene, Reset, IdentifyDevice, Config, EnableWriteMemory}
 use Rattle.gear.specs.declared.settings.LevelSetting.{LevelSetting}
 use Rattle.gear.specs.Scene.{nowhere, scene_at, stored}
 use Rattle.numbers.proofs.Logic.{by_cases}
@@ -32,14 +33,14 @@ setting_slot (AddToGroup n) low = n
 setting_slot (RemoveFromGroup n) low = n
 
 -- the scene or group that a command names; what it would be where it names none
-abbrev pub slot_of : StandardCommand → ℕ → ℕ
-slot_of (Arc a) low = low
-slot_of (GoToScene s) low = s
-slot_of Reset low = low
-slot_of IdentifyDevice low = low
-slot_of (Config k) low = setting_slot k low
-slot_of EnableWriteMemory low = low
-slot_of Unknown low = low
+abbrev pub slot_of : Option StandardCommand → ℕ → ℕ
+slot_of (Some (Arc a)) low = low
+slot_of (Some (GoToScene s)) low = s
+slot_of (Some Reset) low = low
+slot_of (Some IdentifyDevice) low = low
+slot_of (Some (Config k)) low = setting_slot k low
+slot_of (Some EnableWriteMemory) low = low
+slot_of None low = low
 
 -- the test at a byte; what stands in the list does not matter, only its length
 low_half : ℕ → ℕ → Bool
@@ -50,7 +51,7 @@ byte_slot : (byte : ℕ) → byte < 256 → slot_of (command_of byte) (byte % 16
 unfolding low_half command_of level_command config_command
 byte_slot byte h = eqb→eq (slot_of (command_of byte) (byte % 16)) (byte % 16) (at low_half (replicate 256 0) tt byte h)
 
-pub slot : {x : StandardCommand} (kind byte : ℕ) → byte < 256 → x ≡ command_at kind byte → slot_of x (byte % 16) ≡ byte % 16
+pub slot : {x : Option StandardCommand} (kind byte : ℕ) → byte < 256 → x ≡ command_at kind byte → slot_of x (byte % 16) ≡ byte % 16
 unfolding command_at
 slot kind byte h e = rw e (by_cases (eqb kind 0) (λ t. rw t refl) (λ t. rw t (byte_slot byte h)))
 

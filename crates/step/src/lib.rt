@@ -16,6 +16,7 @@ use calls::power::power_cycle;
 use colour::setting::ColourSetting;
 use gear::answer::{Answer, Outcome, Refusal, refused};
 use gear::record::Gear;
+use gear::serve::serve;
 use gear::write::{apply_standard_write, direct_arc_power};
 use query::reply::gear_query_reply;
 
@@ -23,36 +24,32 @@ use query::reply::gear_query_reply;
 pub fn pair(high: u8, low: u8) -> u16
     ensures { result ≡ pair high low }
 {
-    high as u16 * 256 + low as u16
+    u16::from_be_bytes([high, low])
 }
 
-// What a plain read leaves: the record as it was.
+// What a plain read leaves: the record as it was. (replay's `told` is the same line; a crate for it would be no plainer.)
 fn unchanged(gear: Gear, answer: Answer) -> Outcome
     ensures { result ≡ unchanged gear answer }
 {
-    Outcome {
-        answer: answer,
-        gear: gear,
-    }
+    Outcome { answer, gear }
 }
 
 // A colour temperature to be staged.
 pub fn temperature(tc: u16) -> ColourSetting
     ensures { result ≡ temperature tc }
 {
-    let mut setting = ColourSetting::mask();
-    setting.kind = ColourSetting::TC;
-    setting.tc = tc;
-    setting
+    ColourSetting {
+        kind: ColourSetting::TC,
+        tc,
+        ..ColourSetting::mask()
+    }
 }
 
+#[tactic(auto, unfolding(gear::specs::Serve::serve))]
 fn no_such_kind(gear: Gear) -> Outcome
     ensures { result ≡ serve gear (refused gear Byte) }
 {
-    if gear.fit() {
-        return refused(gear, Refusal::Byte);
-    }
-    refused(gear, Refusal::Unfit)
+    serve(gear, refused(gear, Refusal::Byte))
 }
 
 // Kinds 6 to 12, and any above, which there are not.
@@ -71,6 +68,7 @@ fn colour_step(gear: Gear, kind: u8, a: u8, value: u16) -> Outcome
     }
 }
 
+// The four bytes stay apart, as the C interface has them, and the kind a byte: an enum of the kinds would be matched a second time.
 pub fn step(gear: Gear, kind: u8, a: u8, b: u8, c: u8) -> Outcome
     ensures { result ≡ step gear kind a b c }
 {

@@ -4,4 +4,4 @@ use Rattle.step.proofs.temperature.Goals as goal
 
 pub returns : goal.returns
 unfolding temperature
-returns c = simp c.mask-setting.ensures
+returns c = simp c.mask.ensures

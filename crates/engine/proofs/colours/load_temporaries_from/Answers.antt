@@ -1,18 +1,8 @@
 -- `colours::load_temporaries_from` meets its contract: on an image of a fit record it is staging.
-use mathlib.Core.Path.{refl, sym, ◌∙◌}
+use Rattle.std.proofs.Common.{rules}
 use Rattle.calls.specs.Colours.{stage_call, recoloured}
-use Rattle.engine.proofs.Serving.{by_work, not_held, other_length, served}
 use Rattle.engine.proofs.colours.load_temporaries_from.Goals as goal
 
-pub returns-then-slot-ne-SIZE : goal.returns-then-slot-ne-SIZE
-returns-then-slot-ne-SIZE c = other_length _ _ c.if-slot-ne-SIZE.true
-
-pub returns-then-is_held : goal.returns-then-is_held
-unfolding stage_call recoloured
-returns-then-is_held c =
-    let b = c.args.slot.now in
-    served b c.if-slot-ne-SIZE.false c.slice_known-1.given (sym c.is_held.ensures ∙ c.if-is_held.true) _ _ _
-    (by_work _ b _ _ (λ g h. c.stage.ensures g h) (λ g h. refl))
-
 pub returns : goal.returns
-returns c = not_held _ _ c.if-slot-ne-SIZE.false (sym c.is_held.ensures ∙ c.if-is_held.false)
+unfolding stage_call recoloured
+returns c = c.serve.ensures _ (λ a l k. search rules)

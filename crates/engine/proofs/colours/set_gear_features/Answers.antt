@@ -1,20 +1,17 @@
 -- `colours::set_gear_features` meets its contract: on an image of a fit record it is the store of the byte.
-use mathlib.Core.Path.{refl, sym, ◌∙◌}
+use Rattle.std.proofs.Common.{rules}
+use mathlib.Core.Path.{◌≡◌}
+use lib.ListN.{set}
 use Rattle.calls.specs.Colours.{set_features_call, recoloured}
-use Rattle.engine.proofs.Serving.{by_work, not_held, other_length, served}
 use Rattle.colour.specs.Record.{with_features}
 use Rattle.slot.specs.Image.{image_of}
 use Rattle.engine.proofs.colours.set_gear_features.Goals as goal
 
-pub returns-then-slot-ne-SIZE : goal.returns-then-slot-ne-SIZE
-returns-then-slot-ne-SIZE c = other_length _ _ c.if-slot-ne-SIZE.true
-
-pub returns-then-is_held : goal.returns-then-is_held
-unfolding set_features_call recoloured with_features image_of
-returns-then-is_held c =
-    let b = c.args.slot.now in
-    served b c.if-slot-ne-SIZE.false c.slice_known-1.given (sym c.is_held.ensures ∙ c.if-is_held.true) _ _ _
-    (by_work _ b _ _ (λ g h. (rw h.0, h.1)) (λ g h. refl))
-
 pub returns : goal.returns
-returns c = not_held _ _ c.if-slot-ne-SIZE.false (sym c.is_held.ensures ∙ c.if-is_held.false)
+unfolding set_features_call recoloured with_features image_of
+returns c =
+    c.serve.ensures _
+    (λ a l k.
+    let b = c.args.slot.now in
+    let put : l ≡ set b 67 c.args.features = search rules in
+    record { does = λ g h. (rw (put, h.0), h.1); tells = λ g h. search rules })

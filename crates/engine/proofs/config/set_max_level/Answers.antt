@@ -9,5 +9,5 @@ unfolding gear_of
 returns c =
     λ g h.
     let b = c.args.slot.now in
-    let levels : c.levels_of-levels.result ≡ g.levels = c.levels_of-levels.ensures ∙ part b g h (λ x. x.levels) in
-    rw (c.set_max_level.ensures, levels) at (c.put_levels.ensures g h)
+    let levels : c.levels_of.result ≡ g.levels = c.levels_of.ensures ∙ part b g h (λ x. x.levels) in
+    rw (c.set_max_level-levels.ensures, levels) at (c.put_levels.ensures g h)

@@ -1,12 +1,8 @@
 -- `config::set_member` meets its contract: the group's own flag.
-use borrow.Author.Tests.{le-leb, lt-leb}
+use borrow.Author.Tests.{lt-leb}
 use Rattle.gear.specs.Scene.{stored}
 use Rattle.slot.proofs.Indexed.{group_stored}
 use Rattle.engine.proofs.config.set_member.Goals as goal
-
-pub returns-then-group-ge16 : goal.returns-then-group-ge16
-unfolding stored
-returns-then-group-ge16 c = λ g h. rw (le-leb _ _ c.if-group-ge16.true) h
 
 pub returns : goal.returns
 unfolding stored

@@ -11,7 +11,7 @@ unfolding gear_of
 returns c =
     λ g h.
     let b = c.args.slot.now in
-    let levels : c.levels_of-levels.result ≡ g.levels = c.levels_of-levels.ensures ∙ part b g h (λ x. x.levels) in
+    let levels : c.levels_of.result ≡ g.levels = c.levels_of.ensures ∙ part b g h (λ x. x.levels) in
     let unit : c.unit_of.result ≡ (listed g).unit = c.unit_of.ensures ∙ part b g h (λ x. x.unit) in
-    let lowest = c.set_min.ensures ∙ (λ i. set_min (unit i) (levels i) c.args.level) ∙ listed_min g h.1 c.args.level in
+    let lowest = c.set_min-levels.ensures ∙ (λ i. set_min (unit i) (levels i) c.args.level) ∙ listed_min g h.1 c.args.level in
     rw lowest at (c.put_levels.ensures g h)

@@ -1,6 +1,7 @@
 -- `memory::advances` meets its contract: past a location that answers, or past any of a bank.
 use mathlib.Core.Path.{ap, sym, ◌∙◌}
-use Rattle.bank.specs.Memory.{advances_dtr0_past, is_byte}
+use Rattle.std.specs.Prelude.{is_some}
+use Rattle.bank.specs.Memory.{advances_dtr0_past}
 use Rattle.slot.proofs.Read.{part}
 use Rattle.slot.specs.Record.{gear_of}
 use Rattle.engine.proofs.memory.advances.Goals as goal
@@ -8,20 +9,14 @@ use Rattle.engine.proofs.memory.advances.Goals as goal
 pub returns-then-flag : goal.returns-then-flag
 unfolding advances_dtr0_past gear_of
 returns-then-flag c =
-    let at = c in
     λ g h.
-    let held = part at.args.slot.now g h (λ x. x.unit.holds) in
-    let tested = sym at.flag.ensures ∙ c.if-flag.true in
-    rw (← at.implements_bank.ensures, at.if-implements_bank.true, ← held, tested) (c.is_byte.ensures ∙ ap is_byte (c.found.ensures g h))
+    let held = part c.args.slot.now g h (λ x. x.unit.holds) in
+    let tested = sym c.flag.ensures ∙ c.if-flag.true in
+    rw (← c.implements_bank.ensures, c.if-implements_bank.true, ← held, tested) (c.is_some.ensures ∙ ap is_some (c.found.ensures g h))
 
 pub returns-then-implements_bank : goal.returns-then-implements_bank
 unfolding advances_dtr0_past gear_of
 returns-then-implements_bank c =
-    let at = c in
     λ g h.
-    let held = part at.args.slot.now g h (λ x. x.unit.holds) in
-    rw (← at.implements_bank.ensures, c.if-implements_bank.true, ← held, ← c.flag.ensures, c.if-flag.false)
-
-pub returns : goal.returns
-unfolding advances_dtr0_past gear_of
-returns c = λ g h. rw (← c.implements_bank.ensures, c.if-implements_bank.false)
+    let held = part c.args.slot.now g h (λ x. x.unit.holds) in
+    rw (← c.implements_bank.ensures, c.if-implements_bank.true, ← held, ← c.flag.ensures, c.if-flag.false)

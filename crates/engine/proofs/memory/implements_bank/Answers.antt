@@ -1,22 +1,8 @@
--- `memory::implements_bank` meets its contract: every gear has the same two banks.
-use mathlib.Core.Path.{ap, sym, ◌∙◌}
+-- `memory::implements_bank` meets its contract: which banks there are is the same for every record.
+use Rattle.std.proofs.Common.{rules}
 use Rattle.calls.specs.Memory.{implements_call}
-use Rattle.gear.specs.Answer.{flag}
-use Rattle.engine.proofs.Serving.{answered, by_answer, told_not_held, told_other_length}
 use Rattle.engine.proofs.memory.implements_bank.Goals as goal
 
-pub returns-then-slot-ne-SIZE : goal.returns-then-slot-ne-SIZE
-returns-then-slot-ne-SIZE c = told_other_length _ _ c.if-slot-ne-SIZE.true
-
-pub returns-then-is_held : goal.returns-then-is_held
-unfolding implements_call
-returns-then-is_held c =
-    let at = c in
-    let b = at.args.slot.now in
-    answered b at.if-slot-ne-SIZE.false
-    at.shared_slice_known-1.given
-    (sym at.is_held.ensures ∙ c.if-is_held.true) _ _
-    (by_answer _ b _ (λ g h. c.flag.ensures ∙ ap flag c.implements_bank.ensures))
-
 pub returns : goal.returns
-returns c = told_not_held _ _ c.if-slot-ne-SIZE.false (sym c.is_held.ensures ∙ c.if-is_held.false)
+unfolding implements_call
+returns c = c.tell.ensures _ (λ a k h. search rules)

@@ -11,11 +11,10 @@ use Rattle.engine.proofs.memory.write_location.Goals as goal
 pub returns-then-flag : goal.returns-then-flag
 unfolding write_location write_memory_location stored location_answer gear_of
 returns-then-flag c =
-    let at = c in
-    let b = at.args.slot.now in
-    let v = at.args in
-    let can = at.is_writable.ensures in
-    let yes = at.if-is_writable.true in
+    let b = c.args.slot.now in
+    let v = c.args in
+    let can = c.is_writable.ensures in
+    let yes = c.if-is_writable.true in
     let lost = sym c.flag.ensures ∙ c.if-flag.true in
     record {
       does =
@@ -30,12 +29,11 @@ returns-then-flag c =
 pub returns-then-is_writable : goal.returns-then-is_writable
 unfolding write_location write_memory_location stored set_bank1_location location_answer gear_of
 returns-then-is_writable c =
-    let at = c in
-    let b = at.args.slot.now in
-    let v = at.args in
-    let can = at.is_writable.ensures in
-    let yes = at.if-is_writable.true in
-    let lost = sym at.flag.ensures ∙ at.if-flag.false in
+    let b = c.args.slot.now in
+    let v = c.args in
+    let can = c.is_writable.ensures in
+    let yes = c.if-is_writable.true in
+    let lost = sym c.flag.ensures ∙ c.if-flag.false in
     record {
       does =
           λ g h.
@@ -45,12 +43,4 @@ returns-then-is_writable c =
           in
           rw next (c.store_profile.ensures g h);
       tells = λ g h. rw (← can g h, yes);
-    }
-
-pub returns : goal.returns
-unfolding write_location write_memory_location location_answer
-returns c =
-    record {
-      does = λ g h. rw (← c.is_writable.ensures g h, c.if-is_writable.false) h;
-      tells = λ g h. rw (← c.is_writable.ensures g h, c.if-is_writable.false);
     }

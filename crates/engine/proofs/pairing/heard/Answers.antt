@@ -1,14 +1,15 @@
 -- `pairing::heard` meets its contract: the frame completes the pair that waits for it, or waits itself.
 use Rattle.calls.specs.Pairing.{hear}
+use Rattle.engine.proofs.Waiting.{is_open_is, waits_is}
 use Rattle.engine.proofs.pairing.heard.Goals as goal
 
-pub returns-then-waits : goal.returns-then-waits
+pub returns-then-eq : goal.returns-then-eq
 unfolding hear
-returns-then-waits c =
+returns-then-eq c =
     let at = c in
     record {
-      does = λ g h. rw (← at.waits.ensures g h, at.if-waits.true) (c.close.ensures g h);
-      tells = λ g h. rw (← at.waits.ensures g h, at.if-waits.true);
+      does = λ g h. rw (waits_is, ← at.pair-waiting.ensures g h, ← at.eq.ensures, at.if-eq.true) (c.close.ensures g h);
+      tells = λ g h. rw (waits_is, ← at.pair-waiting.ensures g h, ← at.eq.ensures, at.if-eq.true);
     }
 
 pub returns : goal.returns
@@ -18,10 +19,10 @@ returns c =
     record {
       does =
           λ g h.
-          rw (← at.waits.ensures g h, at.if-waits.false)
+          rw (waits_is, ← at.pair-waiting.ensures g h, ← at.eq.ensures, at.if-eq.false)
           (c.put_waiting.ensures g h);
       tells =
           λ g h.
-          rw (← at.waits.ensures g h, at.if-waits.false)
-          (rw (at.heard_answer-answer.ensures, at.is_open.ensures g h));
+          rw (waits_is, is_open_is, ← at.pair-waiting.ensures g h, ← at.eq.ensures, at.if-eq.false)
+          (rw (at.heard_answer-answer.ensures, at.is_some.ensures));
     }

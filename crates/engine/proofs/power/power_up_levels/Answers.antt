@@ -9,10 +9,9 @@ use Rattle.engine.proofs.power.power_up_levels.Goals as goal
 pub returns : goal.returns
 unfolding image_of gear_of
 returns c =
-    let at = c in
     λ g h.
-    let b = at.args.slot.now in
-    let next : at.power_up-levels.result ≡ power_up g.levels g.settings.on.level =
-    rw (at.power_up-levels.ensures, at.levels_of.ensures, at.byte.ensures, part b g h (λ x. x.levels), h.0)
+    let b = c.args.slot.now in
+    let next : c.power_up-levels.result ≡ power_up g.levels g.settings.on.level =
+    rw (c.power_up-levels.ensures, c.levels_of.ensures, part b g h (λ x. x.levels), h.0)
     in
     rw (← next) (c.put_levels.ensures g h)

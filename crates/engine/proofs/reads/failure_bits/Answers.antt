@@ -1,10 +1,9 @@
 -- `reads::failure_bits` meets its contract: what is read off the bytes is the rule's answer.
-use mathlib.Core.Path.{◌∙◌}
+use Rattle.std.proofs.Common.{rules}
 use Rattle.calls.specs.Reads.{failure_bits_call}
-use Rattle.engine.proofs.Telling.{told_read}
 use Rattle.slot.specs.Record.{gear_of}
 use Rattle.engine.proofs.reads.failure_bits.Goals as goal
 
 pub returns : goal.returns
 unfolding failure_bits_call gear_of
-returns c = c.tell.ensures ∙ told_read _ c.args.slot.now _ (cc)
+returns c = c.tell.ensures _ (λ a k h. search rules)

@@ -1,10 +1,8 @@
 -- `reads::lamp_on` meets its contract: what is read off the bytes is the rule's answer.
-use mathlib.Core.Path.{◌∙◌}
 use Rattle.calls.specs.Reads.{lamp_on_call}
-use Rattle.engine.proofs.Telling.{told_read}
 use Rattle.slot.specs.Record.{gear_of}
 use Rattle.engine.proofs.reads.lamp_on.Goals as goal
 
 pub returns : goal.returns
 unfolding lamp_on_call gear_of
-returns c = c.tell.ensures ∙ told_read _ c.args.slot.now _ (simp (c.flag.ensures, c.lamp_on-on.ensures, c.unit_of.ensures, c.levels_of.ensures, c.condition_of-condition.ensures))
+returns c = c.tell.ensures _ (λ a k h. cc)

@@ -15,11 +15,11 @@ returns c =
       unit = c.unit_of.ensures i;
       levels = c.levels_of.ensures i;
       marks = c.marks_of.ensures i;
-      on = (c.byte.ensures ∙ sym (get_or-drop 125 b 14 0)) i;
-      failure = (c.byte-2.ensures ∙ sym (get_or-drop 140 b 14 0)) i;
-      fades = record { time = c.byte-3.ensures i; rate = c.byte-4.ensures i; extended = c.byte-5.ensures i };
+      on = sym (get_or-drop 125 b 14 0) i;
+      failure = sym (get_or-drop 140 b 14 0) i;
+      fades = record { time = at 13 b; rate = at 14 b; extended = at 15 b };
       groups = c.groups_of.ensures i;
-      scene = (c.byte-6.ensures ∙ ap (λ (k : ℕ). at (k + 14) b) c.scene_place.ensures ∙ scene_level c.args.byte b) i;
+      scene = (ap (λ (k : ℕ). at (k + 14) b) c.scene_place.ensures ∙ scene_level c.args.byte b) i;
       lamp = (c.condition_of-condition.ensures i).lamp;
       faults = (c.condition_of-condition.ensures i).faults;
       active = c.tint_at.ensures i;

@@ -2,23 +2,9 @@
 use Prim.Native.Nat.{ℕ}
 use mathlib.Core.Path.{ap, ◌∙◌}
 use lib.ListN.{drop}
-use Rattle.colour.specs.Tint.{captured}
 use Rattle.engine.proofs.Reporting.{scene_shown}
-use Rattle.query.specs.Heard.{shown}
-use Rattle.slot.specs.Record.{colour_in, gear_of}
+use Rattle.slot.specs.Record.{colour_in}
 use Rattle.engine.proofs.report.shown.Goals as goal
-
-pub returns-in-160 : goal.returns-in-160
-unfolding gear_of shown
-returns-in-160 c = rw c.in-160.is (c.captured.ensures ∙ ap captured c.tint_at.ensures)
-
-pub returns-in-163 : goal.returns-in-163
-unfolding gear_of shown
-returns-in-163 c = rw c.in-163.is c.colour_at.ensures
-
-pub returns-in-164 : goal.returns-in-164
-unfolding gear_of shown
-returns-in-164 c = rw c.in-164.is c.colour_at-in-164.ensures
 
 pub returns-in_default : goal.returns-in_default
 returns-in_default c =

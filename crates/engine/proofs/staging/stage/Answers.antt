@@ -1,23 +1,15 @@
--- `staging::stage` meets its contract: the type byte decides.
+-- `staging::stage` meets its contract: the setting's type decides.
 use mathlib.Core.Path.{refl}
+use borrow.Author.Tests.{ne_eqb}
+use Rattle.std.proofs.Common.{rules}
 use Rattle.colour.specs.Staging.{load_temporaries_from}
 use Rattle.engine.proofs.Blocks.{load_none}
 use Rattle.slot.specs.Image.{image_of}
-use borrow.Author.Tests.{ne_eqb}
 use Rattle.engine.proofs.staging.stage.Goals as goal
 
-pub returns-then-kind-eq-XY : goal.returns-then-kind-eq-XY
-returns-then-kind-eq-XY c = λ g h. c.stage_xy.ensures g h c.if-kind-eq-XY.true
-
-pub returns-then-kind-eq-TC : goal.returns-then-kind-eq-TC
-returns-then-kind-eq-TC c = λ g h. c.stage_tc.ensures g h c.if-kind-eq-TC.true
-
-pub returns-then-kind : goal.returns-then-kind
-returns-then-kind c = λ g h. c.stage_channels.ensures g h c.if-kind.true
-
-pub returns : goal.returns
+pub returns-in_default : goal.returns-in_default
 unfolding image_of load_temporaries_from
-returns c =
+returns-in_default c =
     λ g h.
-    let none = load_none g.colour.pending c.args.setting (ne_eqb _ _ c.if-kind-eq-XY.false) (ne_eqb _ _ c.if-kind-eq-TC.false) (ne_eqb _ _ c.if-kind.false) in
+    let none = load_none g.colour.pending c.args.setting (ne_eqb _ 0x10 (search rules)) (ne_eqb _ 0x20 (search rules)) (ne_eqb _ 0x80 (search rules)) in
     rw (none, h.0) (refl, h.1)

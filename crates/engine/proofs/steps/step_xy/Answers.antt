@@ -2,7 +2,7 @@
 use mathlib.Core.Path.{◌≡◌, refl, ◌∙◌}
 use borrow.Author.Tests.{eq-eqb, ne_eqb}
 use Rattle.colour.specs.Steps.{moved, xy_step}
-use Rattle.engine.proofs.Blocks.{active_x, active_xy, active_y}
+use Rattle.engine.proofs.Blocks.{active_xy, active_y}
 use Rattle.slot.specs.Image.{image_of}
 use Rattle.engine.proofs.steps.step_xy.Goals as goal
 
@@ -16,12 +16,4 @@ returns-then-y_axis c =
     λ g h.
     let b = c.args.slot.now in
     let at : c.word.result ≡ g.colour.active.y = c.word.ensures ∙ active_y b g h in
-    rw (active_xy b g h ∙ eq-eqb _ _ c.if-slot-ne-XY.false, c.if-y_axis.true, c.stepped_xy-y.ensures, at, h.0) (refl, h.1)
-
-pub returns : goal.returns
-unfolding image_of xy_step moved
-returns c =
-    λ g h.
-    let b = c.args.slot.now in
-    let at : c.word-2.result ≡ g.colour.active.x = c.word-2.ensures ∙ active_x b g h in
-    rw (active_xy b g h ∙ eq-eqb _ _ c.if-slot-ne-XY.false, c.if-y_axis.false, c.stepped_xy-x.ensures, at, h.0) (refl, h.1)
+    rw (active_xy b g h ∙ eq-eqb _ _ c.if-slot-ne-XY.false, c.if-y_axis.true, c.put_word.ensures, c.stepped_xy-y.ensures, at, h.0) (refl, h.1)

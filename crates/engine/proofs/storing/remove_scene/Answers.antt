@@ -1,19 +1,11 @@
 -- `storing::remove_scene` meets its contract: an entry without a level and without a colour.
 use mathlib.Core.Path.{refl}
-use lib.ListN.{length-set}
-use borrow.Author.Tests.{le-leb, lt-leb}
+use borrow.Author.Tests.{lt-leb}
 use Rattle.colour.specs.Setting.{mask}
 use Rattle.engine.proofs.Taking.{scene_put}
 use Rattle.gear.specs.Scene.{stored}
 use Rattle.gear.specs.Write.{remove_scene}
 use Rattle.engine.proofs.storing.remove_scene.Goals as goal
-
-pub returns-then-scene-ge16 : goal.returns-then-scene-ge16
-unfolding remove_scene stored
-returns-then-scene-ge16 c = λ g h. rw (le-leb _ _ c.if-scene-ge16.true) h
-
-pub shape_of-slot : goal.shape_of-slot
-shape_of-slot c = simp length-set at c.slot-1.given
 
 pub returns : goal.returns
 unfolding remove_scene stored

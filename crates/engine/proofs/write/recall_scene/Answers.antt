@@ -1,20 +1,14 @@
 -- `write::recall_scene` meets its contract: the entry is read at its place.
 use mathlib.Core.Path.{◌≡◌, ap, sym, ◌∙◌}
 use mathlib.Core.List.{List}
-use borrow.Author.Tests.{le-leb}
 use native.Mathlib.Omega.{arith}
-use Rattle.colour.specs.Activation.{recall}
 use Rattle.engine.proofs.Places.{scene_place}
 use Rattle.gear.specs.declared.settings.LevelSetting.{LevelSetting}
 use Rattle.gear.specs.Scene.{scene_at}
-use Rattle.gear.specs.Write.{recall_scene, recalled_levels, scene}
+use Rattle.gear.specs.Write.{recall_scene, scene}
 use Rattle.slot.proofs.Read.{part}
 use Rattle.slot.specs.Record.{gear_of}
 use Rattle.engine.proofs.write.recall_scene.Goals as goal
-
-pub returns-then-scene-ge16 : goal.returns-then-scene-ge16
-unfolding recall_scene scene_at recalled_levels recall
-returns-then-scene-ge16 c = λ g h. rw (le-leb _ _ c.if-scene-ge16.true) (c.ask.ensures g h)
 
 pub returns : goal.returns
 unfolding recall_scene gear_of

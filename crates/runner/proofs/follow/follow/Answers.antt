@@ -5,6 +5,7 @@ use mathlib.Core.Bool.{Bool, true, false}
 use mathlib.Core.List.{List, []}
 use mathlib.Core.Path.{◌≡◌, refl, sym, ◌∙◌, ap, ap₂}
 use Rattle.std.proofs.Common.{rules}
+use Rattle.std.specs.Prelude.{Option, Some}
 use native.Mathlib.Omega.{arith}
 use lib.ListN.{get_or, set}
 use Rattle.bank.specs.declared.memory.Written.{Written}
@@ -17,9 +18,9 @@ use Rattle.colour.specs.Steps.{store_tc_limit}
 use Rattle.query.specs.Heard.{shown}
 use Rattle.query.proofs.Parts.{query_tells, query_walks}
 use Rattle.query.specs.Reply.{query, seen_with, told}
-use Rattle.gear.specs.Answer.{location_answer, value_answer}
-use Rattle.gear.specs.declared.answer.Answer.{Answer}
+use Rattle.gear.specs.Answer.{Answer, location_answer, value_answer}
 use Rattle.gear.specs.declared.answer.Outcome.{Outcome}
+use Rattle.gear.specs.declared.command.StandardCommand.{StandardCommand}
 use Rattle.gear.specs.declared.command.StandardCommand.TheVariants.{Config}
 use Rattle.colour.specs.Activation.{recall}
 use Rattle.colour.specs.declared.staging.Taken.{Taken}
@@ -41,7 +42,7 @@ use Rattle.numbers.specs.Numbers.{pick}
 use Rattle.runner.specs.Line.{Wrote}
 use Rattle.runner.specs.Run.{answer_after, performed, state_after, text_after}
 use Rattle.runner.proofs.follow.follow.Goals as goal
-use Rattle.runner.proofs.follow.follow.Goals.{Joined-kind, in-2+then-reports, in-2+else-reports, in-3, in-4, in-5, in-6, in-7, in-8, in-9, in-10, in-11, in-12, in-0+in-Arc, in-0+in-GoToScene, in-0+in-Config+in-SetMaxLevel, in-0+in-Config+in-SetMinLevel, in-0+in-Config+in-SetSystemFailureLevel, in-0+in-Config+in-SetPowerOnLevel, in-0+in-Config+in-SetFadeTime, in-0+in-Config+in-SetFadeRate, in-0+in-Config+in-SetExtendedFadeTime, in-0+in-Config+in-SetScene, in-0+in-Config+in-RemoveScene, in-0+in-Config+in-AddToGroup, in-0+in-Config+in-RemoveFromGroup, in-0+in-Reset, in-0+in-IdentifyDevice, in-0+in-EnableWriteMemory, in-0+in-Unknown, in_default}
+use Rattle.runner.proofs.follow.follow.Goals.{Joined-kind, in-2+then-reports, in-2+else-reports, in-3, in-4, in-5, in-6, in-7, in-8, in-9, in-10, in-11, in-12, in-0+in-Some-Arc, in-0+in-Some-GoToScene, in-0+in-Some-Config+in-SetMaxLevel, in-0+in-Some-Config+in-SetMinLevel, in-0+in-Some-Config+in-SetSystemFailureLevel, in-0+in-Some-Config+in-SetPowerOnLevel, in-0+in-Some-Config+in-SetFadeTime, in-0+in-Some-Config+in-SetFadeRate, in-0+in-Some-Config+in-SetExtendedFadeTime, in-0+in-Some-Config+in-SetScene, in-0+in-Some-Config+in-RemoveScene, in-0+in-Some-Config+in-AddToGroup, in-0+in-Some-Config+in-RemoveFromGroup, in-0+in-Some-Reset, in-0+in-Some-IdentifyDevice, in-0+in-Some-EnableWriteMemory, in-0+in-None, in_default}
 
 -- ## Where the arms meet
 
@@ -52,6 +53,10 @@ meets e l m = (l ∙ ap (λ (x : Outcome). x.gear) (sym e), m ∙ ap (λ (x : Ou
 
 light : (g : Gear) {l l' : Levels} {m m' : Marks} {c c' : Colour} → l ≡ l' → m ≡ m' → c ≡ c' → with_light g l m c ≡ with_light g l' m' c'
 light g e f h = rw (e, f, h) refl
+
+-- the command that a nested pattern found
+found : {o : Option StandardCommand} {x y : StandardCommand} → o ≡ Some x → x ≡ y → o ≡ Some y
+found is e = is ∙ ap Some e
 
 -- a scene stored, and what is left staged
 scene_put :
@@ -119,70 +124,71 @@ met c =
           meets (at_copy_report g f a b d w.in-11.is) (w.state-is ∙ ap (with_colour g) w.copy_report_to_temporary-state.ensures) w.answer-is
       | in-12 w ↦
           meets (at_features g f a b d w.in-12.is) w.state-is w.answer-is
-      | in-0+in-Arc w ↦
-          meets (at_write g f a b d w.in-0.if-kind-lt2-own.true w.command_at-command.ensures w.in-Arc.is)
+      | in-0+in-Some-Arc w ↦
+          meets (at_write g f a b d w.in-0.if-kind-lt2-own.true w.command_at-command.ensures (found w.in-Some-Arc.is (rw w.in-Some-Arc.is at w.in-Some-Arc.field-0-is)))
           (w.state-is ∙ light g w.apply_arc-state.ensures (w.asked-state.ensures ∙ ap (asked g.marks) w.keeps_identify.ensures) w.arc_power_activation-state.ensures) w.answer-is
-      | in-0+in-GoToScene w ↦
-          let is = slot _ a a_byte (sym w.in-GoToScene.is ∙ w.command_at-command.ensures) in
-          meets (at_write g f a b d w.in-0.if-kind-lt2-own.true w.command_at-command.ensures w.in-GoToScene.is)
+      | in-0+in-Some-GoToScene w ↦
+          let command = found w.in-Some-GoToScene.is (rw w.in-Some-GoToScene.is at w.in-Some-GoToScene.field-0-is) in
+          let is = slot _ a a_byte (sym command ∙ w.command_at-command.ensures) in
+          meets (at_write g f a b d w.in-0.if-kind-lt2-own.true w.command_at-command.ensures command)
           (w.state-is ∙
-          light g (w.recalled_levels-state.ensures ∙ ap (λ (x : LevelSetting). recalled_levels g.levels x.level) (scene_at_lem is low g.scenes)) w.asked-state-in-GoToScene.ensures
+          light g (w.recalled_levels-state.ensures ∙ ap (λ (x : LevelSetting). recalled_levels g.levels x.level) (scene_at_lem is low g.scenes)) w.asked-state-in-Some-GoToScene.ensures
           (w.recall-state.ensures ∙ ap (λ (x : LevelSetting). recall g.colour x.colour) (scene_at_lem is low g.scenes))) w.answer-is
-      | in-0+in-Config+in-SetMaxLevel w ↦
-          meets (at_write g f a b d w.in-0.if-kind-lt2-own.true w.command_at-command.ensures (w.in-Config.is ∙ ap Config w.in-SetMaxLevel.is))
+      | in-0+in-Some-Config+in-SetMaxLevel w ↦
+          meets (at_write g f a b d w.in-0.if-kind-lt2-own.true w.command_at-command.ensures (found w.in-Some-Config.is (rw w.in-Some-Config.is at w.in-Some-Config.field-0-is ∙ ap Config w.in-SetMaxLevel.is)))
           (w.state-is ∙ light g w.set_max_level-state.ensures w.configured-state.ensures refl) w.answer-is
-      | in-0+in-Config+in-SetMinLevel w ↦
-          meets (at_write g f a b d w.in-0.if-kind-lt2-own.true w.command_at-command.ensures (w.in-Config.is ∙ ap Config w.in-SetMinLevel.is))
+      | in-0+in-Some-Config+in-SetMinLevel w ↦
+          meets (at_write g f a b d w.in-0.if-kind-lt2-own.true w.command_at-command.ensures (found w.in-Some-Config.is (rw w.in-Some-Config.is at w.in-Some-Config.field-0-is ∙ ap Config w.in-SetMinLevel.is)))
           (w.state-is ∙ light g w.set_min-state.ensures w.configured-state.ensures refl) w.answer-is
-      | in-0+in-Config+in-SetSystemFailureLevel w ↦
-          meets (at_write g f a b d w.in-0.if-kind-lt2-own.true w.command_at-command.ensures (w.in-Config.is ∙ ap Config w.in-SetSystemFailureLevel.is))
+      | in-0+in-Some-Config+in-SetSystemFailureLevel w ↦
+          meets (at_write g f a b d w.in-0.if-kind-lt2-own.true w.command_at-command.ensures (found w.in-Some-Config.is (rw w.in-Some-Config.is at w.in-Some-Config.field-0-is ∙ ap Config w.in-SetSystemFailureLevel.is)))
           (w.state-is ∙
           ap₂ (λ (m : Marks) (t : Taken). with_settings (with_marks g m) (with_failure g.settings (level_setting b t.setting)) t.colour)
           w.configured-state.ensures w.take_staged_colour-taken.ensures) w.answer-is
-      | in-0+in-Config+in-SetPowerOnLevel w ↦
-          meets (at_write g f a b d w.in-0.if-kind-lt2-own.true w.command_at-command.ensures (w.in-Config.is ∙ ap Config w.in-SetPowerOnLevel.is))
+      | in-0+in-Some-Config+in-SetPowerOnLevel w ↦
+          meets (at_write g f a b d w.in-0.if-kind-lt2-own.true w.command_at-command.ensures (found w.in-Some-Config.is (rw w.in-Some-Config.is at w.in-Some-Config.field-0-is ∙ ap Config w.in-SetPowerOnLevel.is)))
           (w.state-is ∙
           ap₂ (λ (m : Marks) (t : Taken). with_settings (with_marks g m) (with_on g.settings (level_setting b t.setting)) t.colour)
           w.configured-state.ensures w.take_staged_colour-taken-in-SetPowerOnLevel.ensures) w.answer-is
-      | in-0+in-Config+in-SetFadeTime w ↦
-          meets (at_write g f a b d w.in-0.if-kind-lt2-own.true w.command_at-command.ensures (w.in-Config.is ∙ ap Config w.in-SetFadeTime.is))
+      | in-0+in-Some-Config+in-SetFadeTime w ↦
+          meets (at_write g f a b d w.in-0.if-kind-lt2-own.true w.command_at-command.ensures (found w.in-Some-Config.is (rw w.in-Some-Config.is at w.in-Some-Config.field-0-is ∙ ap Config w.in-SetFadeTime.is)))
           (w.state-is ∙ ap (λ (m : Marks). set_fades (with_marks g m) b g.settings.fades.rate g.settings.fades.extended) w.configured-state.ensures) w.answer-is
-      | in-0+in-Config+in-SetFadeRate w ↦
-          meets (at_write g f a b d w.in-0.if-kind-lt2-own.true w.command_at-command.ensures (w.in-Config.is ∙ ap Config w.in-SetFadeRate.is))
+      | in-0+in-Some-Config+in-SetFadeRate w ↦
+          meets (at_write g f a b d w.in-0.if-kind-lt2-own.true w.command_at-command.ensures (found w.in-Some-Config.is (rw w.in-Some-Config.is at w.in-Some-Config.field-0-is ∙ ap Config w.in-SetFadeRate.is)))
           (w.state-is ∙ ap (λ (m : Marks). set_fades (with_marks g m) g.settings.fades.time b g.settings.fades.extended) w.configured-state.ensures) w.answer-is
-      | in-0+in-Config+in-SetExtendedFadeTime w ↦
-          meets (at_write g f a b d w.in-0.if-kind-lt2-own.true w.command_at-command.ensures (w.in-Config.is ∙ ap Config w.in-SetExtendedFadeTime.is))
+      | in-0+in-Some-Config+in-SetExtendedFadeTime w ↦
+          meets (at_write g f a b d w.in-0.if-kind-lt2-own.true w.command_at-command.ensures (found w.in-Some-Config.is (rw w.in-Some-Config.is at w.in-Some-Config.field-0-is ∙ ap Config w.in-SetExtendedFadeTime.is)))
           (w.state-is ∙ ap₂ (λ (m : Marks) (t : ℕ). set_fades (with_marks g m) g.settings.fades.time g.settings.fades.rate t) w.configured-state.ensures w.extended_fade-extended.ensures) w.answer-is
-      | in-0+in-Config+in-SetScene w ↦
-          let command = w.in-Config.is ∙ ap Config w.in-SetScene.is in
+      | in-0+in-Some-Config+in-SetScene w ↦
+          let command = found w.in-Some-Config.is (rw w.in-Some-Config.is at w.in-Some-Config.field-0-is ∙ ap Config w.in-SetScene.is) in
           let is = slot _ a a_byte (sym command ∙ w.command_at-command.ensures) in
           let taken = w.take_staged_colour-taken-in-SetScene.ensures ∙ ap (λ (x : LevelSetting). take_staged_colour g.colour x.colour) (scene_at_lem is low g.scenes) in
           meets (at_write g f a b d w.in-0.if-kind-lt2-own.true w.command_at-command.ensures command)
           (w.state-is ∙
           scene_put is low g w.configured-state.ensures (ap (λ (t : Taken). level_setting b t.setting) taken) (ap (λ (t : Taken). t.colour) taken)) w.answer-is
-      | in-0+in-Config+in-RemoveScene w ↦
-          let command = w.in-Config.is ∙ ap Config w.in-RemoveScene.is in
+      | in-0+in-Some-Config+in-RemoveScene w ↦
+          let command = found w.in-Some-Config.is (rw w.in-Some-Config.is at w.in-Some-Config.field-0-is ∙ ap Config w.in-RemoveScene.is) in
           let is = slot _ a a_byte (sym command ∙ w.command_at-command.ensures) in
           meets (at_write g f a b d w.in-0.if-kind-lt2-own.true w.command_at-command.ensures command)
           (w.state-is ∙ scene_put is low g w.configured-state.ensures w.unset-none.ensures refl) w.answer-is
-      | in-0+in-Config+in-AddToGroup w ↦
-          let command = w.in-Config.is ∙ ap Config w.in-AddToGroup.is in
+      | in-0+in-Some-Config+in-AddToGroup w ↦
+          let command = found w.in-Some-Config.is (rw w.in-Some-Config.is at w.in-Some-Config.field-0-is ∙ ap Config w.in-AddToGroup.is) in
           let is = slot _ a a_byte (sym command ∙ w.command_at-command.ensures) in
           meets (at_write g f a b d w.in-0.if-kind-lt2-own.true w.command_at-command.ensures command)
           (w.state-is ∙ ap₂ (λ (m : Marks) (x : List Bool). with_settings (with_marks g m) (with_groups g.settings x) g.colour) w.configured-state.ensures (stored_at is low g.settings.groups true)) w.answer-is
-      | in-0+in-Config+in-RemoveFromGroup w ↦
-          let command = w.in-Config.is ∙ ap Config w.in-RemoveFromGroup.is in
+      | in-0+in-Some-Config+in-RemoveFromGroup w ↦
+          let command = found w.in-Some-Config.is (rw w.in-Some-Config.is at w.in-Some-Config.field-0-is ∙ ap Config w.in-RemoveFromGroup.is) in
           let is = slot _ a a_byte (sym command ∙ w.command_at-command.ensures) in
           meets (at_write g f a b d w.in-0.if-kind-lt2-own.true w.command_at-command.ensures command)
           (w.state-is ∙ ap₂ (λ (m : Marks) (x : List Bool). with_settings (with_marks g m) (with_groups g.settings x) g.colour) w.configured-state.ensures (stored_at is low g.settings.groups false)) w.answer-is
-      | in-0+in-Reset w ↦
-          meets (at_write g f a b d w.in-0.if-kind-lt2-own.true w.command_at-command.ensures w.in-Reset.is) (w.state-is ∙ w.reset_gear-state.ensures) w.answer-is
-      | in-0+in-IdentifyDevice w ↦
-          meets (at_write g f a b d w.in-0.if-kind-lt2-own.true w.command_at-command.ensures w.in-IdentifyDevice.is) (w.state-is ∙ ap (with_marks g) w.identified-state.ensures) w.answer-is
-      | in-0+in-EnableWriteMemory w ↦
-          meets (at_write g f a b d w.in-0.if-kind-lt2-own.true w.command_at-command.ensures w.in-EnableWriteMemory.is) (w.state-is ∙ ap (with_marks g) w.enabled-state.ensures) w.answer-is
-      | in-0+in-Unknown w ↦
-          meets (at_write g f a b d w.in-0.if-kind-lt2-own.true w.command_at-command.ensures w.in-Unknown.is) w.state-is w.answer-is
+      | in-0+in-Some-Reset w ↦
+          meets (at_write g f a b d w.in-0.if-kind-lt2-own.true w.command_at-command.ensures (found w.in-Some-Reset.is (rw w.in-Some-Reset.is at w.in-Some-Reset.field-0-is))) (w.state-is ∙ w.reset_gear-state.ensures) w.answer-is
+      | in-0+in-Some-IdentifyDevice w ↦
+          meets (at_write g f a b d w.in-0.if-kind-lt2-own.true w.command_at-command.ensures (found w.in-Some-IdentifyDevice.is (rw w.in-Some-IdentifyDevice.is at w.in-Some-IdentifyDevice.field-0-is))) (w.state-is ∙ ap (with_marks g) w.identified-state.ensures) w.answer-is
+      | in-0+in-Some-EnableWriteMemory w ↦
+          meets (at_write g f a b d w.in-0.if-kind-lt2-own.true w.command_at-command.ensures (found w.in-Some-EnableWriteMemory.is (rw w.in-Some-EnableWriteMemory.is at w.in-Some-EnableWriteMemory.field-0-is))) (w.state-is ∙ ap (with_marks g) w.enabled-state.ensures) w.answer-is
+      | in-0+in-None w ↦
+          meets (at_write g f a b d w.in-0.if-kind-lt2-own.true w.command_at-command.ensures w.in-None.is) w.state-is w.answer-is
       | in_default w ↦
           let r = w.in_default.in_default-own.rest in
           meets

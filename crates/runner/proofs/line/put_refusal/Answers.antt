@@ -9,10 +9,10 @@ put_digits-requires c =
     let wrote = c in
     let start = wrote in
     let room = room_then (digits 5 (refusal_number start.args.refusal)) start.requires wrote.put-next.ensures in
-    rw wrote.number-number.ensures room
+    rw wrote.from-number.ensures room
 
 pub returns : goal.returns
 returns c =
     let w₂ = c in
     let w₁ = w₂ in
-    wrote_then w₁.requires w₁.put-next.ensures (rw w₁.number-number.ensures at w₂.put_digits.ensures)
+    wrote_then w₁.requires w₁.put-next.ensures (rw w₁.from-number.ensures at w₂.put_digits.ensures)
