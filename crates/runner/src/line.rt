@@ -112,15 +112,14 @@ fn put_answer(buf: &mut [u8], at: usize, answer: Answer) -> usize
     }
 }
 
-// A step's number and its answer. Most steps are done or tell a value: told apart here, before the number is written, such a line costs
-// fewer instructions.
+// A step's number and its answer. Most steps are done: told apart here, before the number is written, such a line costs fewer
+// instructions. (With a value told apart too, a run of the library costs more again.)
 pub(crate) fn put_line(buf: &mut [u8], at: usize, number: usize, answer: Answer) -> usize
     requires { at + length (line_text number answer) ≤ length buf.old }
     ensures { Wrote buf.old at (line_text number answer) buf.new result }
 {
     match answer {
         Ok(Reply::Done) => put_answered(buf, at, number, Ok(Reply::Done)),
-        Ok(Reply::Value(value)) => put_answered(buf, at, number, Ok(Reply::Value(value))),
         _ => put_answered(buf, at, number, answer),
     }
 }
