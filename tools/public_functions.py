@@ -1,4 +1,4 @@
-"""The public functions of every library crate, as the checks of this folder want them.
+"""The public functions of every library crate, as the checks of this folder want them; conversions by From are among them.
 
 Left out: programs, and what other crates can't call (pub(crate), and modules that are not pub)."""
 import collections
@@ -7,9 +7,12 @@ import re
 
 CRATES = pathlib.Path(__file__).resolve().parent.parent / "crates"
 ITEM = re.compile(
-    r'^impl (?P<holder>\w+)|^}|^ *pub (?:extern "C" )?fn (?P<name>\w+)(?P<generics>[^(]*)\((?P<params>[^)]*)\)(?P<result>[^{]*?)(?=\s(?:requires|ensures|{))',
+    r"^impl (?:From<(?P<source>\w+)> for )?(?P<holder>\w+)|^}"
+    r'|^ *(?:pub (?:extern "C" )?|(?=fn from\())fn (?P<name>\w+)(?P<generics>[^(]*)\((?P<params>[^)]*)\)(?P<result>[^{]*?)(?=\s(?:requires|ensures|{))',
     re.M,
 )
+# the law of a conversion: what it gives is said of its own two names
+GIVES = re.compile(r"ghost from_gives = \{ λ (\w+) (\w+)\. (.*?) \};", re.S)
 CLAUSE = re.compile(r"\s*(?:requires|ensures)\b\*?(?: \w+)? (?={)")
 STATIC = re.compile(r"^(\w+) +staticlib\b", re.M)
 
@@ -38,18 +41,29 @@ def promises(text, at):
     return found
 
 
+def converted(text, at):
+    """What a conversion gives, as a promise of the function behind the law."""
+    _, given, law = GIVES.match(text, text.index("ghost ", at)).groups()
+    return [re.sub(rf"\b{given}\b", "result", law)]
+
+
 def below(crate, file, folder, path):
     text = file.read_text()
-    holder = []
+    holder, law = [], None
     for item in ITEM.finditer(text):
-        if item["holder"]:
+        if item["source"]:
+            # as the check names it
+            given, taken = (name[0].upper() + name[1:] for name in (item["holder"], item["source"]))
+            holder = [f"{given}From{taken}"]
+            law = converted(text, item.end())
+        elif item["holder"]:
             holder = [item["holder"]]
         elif item["name"]:
             params = [param.strip() for param in item["params"].split(",") if param.strip()]
             name = path + holder + [item["name"]]
-            yield Function(crate, name, item["generics"], params, item["result"].strip(), promises(text, item.end()))
+            yield Function(crate, name, item["generics"], params, item["result"].strip(), law or promises(text, item.end()))
         else:
-            holder = []
+            holder, law = [], None
     for module in re.findall(r"^pub mod (\w+);", text, re.M):
         yield from below(crate, folder / f"{module}.rt", folder / module, path + [module])
 
@@ -73,9 +87,11 @@ NO_CALLS = {
     "borrowed::power_cycle": "is `power_cycle` on a record that is lent",
     "gear::answer::done": "puts the answer Done beside the record that a call leaves",
     "gear::answer::refused": "puts a refusal beside the record that a call hands back",
+    "gear::answer::unchanged": "puts an answer beside a record that stays as it was",
     "gear::record::Gear::fit": "is the test itself",
     "gear::serve::serve": "makes the test for a call that may change the record",
     "gear::serve::tell": "makes the test for a call that only answers",
+    "query::told::Seen::of": "takes from a record what queries tell of",
     "slot::image::store": "puts a record into a slot",
 }
 

@@ -1,8 +1,9 @@
 -- What a memory location answers to a read and to a write (part 102, 9.10).
-use Rattle.std.specs.Prelude.{ℕ, Bool, true, not, List, eqb, leb, ltb, get_or, set, Option, Some, None, is_some}
+use Rattle.std.specs.Prelude.{ℕ, Bool, true, not, List, eqb, leb, ltb, get_or, Option, Some, None, is_some}
 use Rattle.bank.specs.declared.build.Banks.{Banks}
 use Rattle.bank.specs.declared.memory.Written.{Written}
 use Rattle.bank.specs.Build.{with_profile}
+use Rattle.numbers.specs.Entries.{stored_at as stored_among}
 use Rattle.numbers.specs.Numbers.{both, pick}
 
 -- bank 0: nothing beyond the last offset, which offset 0 holds, nothing at offset 1, nothing beyond the 29 bytes that there are
@@ -50,7 +51,7 @@ writable b bank offset = both (eqb bank 1) (profile_writable b.profile offset)
 
 -- beyond a bank's n bytes nothing is stored
 abbrev pub stored_at : ℕ → List ℕ → ℕ → ℕ → List ℕ
-stored_at n bytes offset value = pick (leb n offset) bytes (set bytes offset value)
+stored_at n bytes offset value = stored_among n bytes offset value
 
 unfoldable pub store_profile : List ℕ → ℕ → ℕ → List ℕ
 store_profile bytes offset value = stored_at 17 bytes offset value

@@ -2,6 +2,8 @@
 ghost use Rattle.std.specs.Prelude.{◌≡◌};
 ghost use Rattle.bank.specs.Build.{with_identity, with_profile, build_bank0, build_bank1, build};
 
+use crate::memory::{LOCK_BYTE, PROFILE_LAST, UNLOCKED};
+
 // Bank 0 identifies the gear, and bank 1 is its maker's profile. A location of a bank is called by its offset.
 #[derive(Clone, Copy)]
 pub struct Banks {
@@ -39,21 +41,23 @@ impl Banks {
 pub fn build_bank0(random: u32) -> [u8; 29]
     ensures { result ≡ build_bank0 random }
 {
-    let gtin = (0x4000_0000_0000 + random as u64).to_be_bytes();
-    let serial = (0x5EED_0000 + random as u64).to_be_bytes();
-    [
-        // The last offset, a reserved byte, the last bank.
-        26, 0, 1, gtin[2], gtin[3], gtin[4], gtin[5], gtin[6], gtin[7],
-        // The firmware's version.
-        1, 4, serial[0], serial[1], serial[2], serial[3], serial[4], serial[5], serial[6],
-        serial[7],
+    let gtin = (0x4000_0000_0000 + u64::from(random)).to_be_bytes();
+    let serial = (0x5EED_0000 + u64::from(random)).to_be_bytes();
+    let mut bank = [
+        // The last offset, a reserved byte, the last bank; room for the GTIN.
+        26, 0, 1, 0, 0, 0, 0, 0, 0,
+        // The firmware's version; room for the identification number.
+        1, 4, 0, 0, 0, 0, 0, 0, 0, 0,
         // The hardware's version; the versions of parts 101, 102 and 103.
         2, 0, 8, 8, 0,
         // Logical units: none that controls, one gear, and its index.
         0, 1, 0,
         // Beyond the last offset.
         0, 0,
-    ]
+    ];
+    bank[3..9].copy_from_slice(&gtin[2..]);
+    bank[11..19].copy_from_slice(&serial);
+    bank
 }
 
 // Part 102, table 10: the maker's own GTIN and identification number; the second is the random address, moved up a byte.
@@ -61,11 +65,12 @@ pub fn build_bank0(random: u32) -> [u8; 29]
 pub fn build_bank1(random: u32) -> [u8; 17]
     ensures { result ≡ build_bank1 random }
 {
-    let gtin = (0x0EE0_0000_0000 + random as u64).to_be_bytes();
-    let serial = (random as u64 * 256).to_be_bytes();
-    [
-        // The last offset, the indicator byte, the lock byte.
-        16, 0, 0x55, gtin[2], gtin[3], gtin[4], gtin[5], gtin[6], gtin[7], serial[0], serial[1],
-        serial[2], serial[3], serial[4], serial[5], serial[6], serial[7],
-    ]
+    let gtin = (0x0EE0_0000_0000 + u64::from(random)).to_be_bytes();
+    let serial = (u64::from(random) * 256).to_be_bytes();
+    let mut bank = [0; 17];
+    bank[0] = PROFILE_LAST;
+    bank[usize::from(LOCK_BYTE)] = UNLOCKED;
+    bank[3..9].copy_from_slice(&gtin[2..]);
+    bank[9..].copy_from_slice(&serial);
+    bank
 }

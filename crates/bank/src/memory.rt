@@ -1,8 +1,10 @@
-// Reading and writing memory locations (part 102, 9.10).
+// Reading and writing memory locations (part 102, 9.10). A location is two bytes, bank and offset, in that order in every public call;
+// of the private functions `writable` alone takes both, and a struct of the two would be made in each call for that one.
 ghost use Rattle.std.specs.Prelude.{◌≡◌};
-ghost use Rattle.bank.specs.Memory.{identity_location, profile_location, lacks_indicator_byte, memory_location, implements_bank, advances_dtr0_past, profile_writable, writable, stored_at, stored, write_memory_location};
+ghost use Rattle.bank.specs.Memory.{identity_location, profile_location, lacks_indicator_byte, memory_location, implements_bank, advances_dtr0_past, profile_writable, writable, stored, write_memory_location};
 
 use crate::build::Banks;
+use numbers::entries::stored_at;
 
 pub const MEMORY_BANK_IDENTITY: u8 = 0;
 
@@ -40,7 +42,7 @@ fn identity_location(identity: [u8; 29], offset: u8) -> Option<u8>
     if identity[0] < offset || offset == INDICATOR_BYTE {
         return None;
     }
-    identity.get(offset as usize).copied()
+    identity.get(usize::from(offset)).copied()
 }
 
 // The last offset of bank 1 is read at offset 0, whatever is stored there.
@@ -50,7 +52,7 @@ fn profile_location(profile: [u8; 17], offset: u8) -> Option<u8>
 {
     match offset {
         0 => Some(PROFILE_LAST),
-        _ => profile.get(offset as usize).copied(),
+        _ => profile.get(usize::from(offset)).copied(),
     }
 }
 
@@ -97,7 +99,7 @@ fn profile_writable(profile: [u8; 17], offset: u8) -> bool
     ensures { result ≡ profile_writable profile offset }
 {
     (LOCK_BYTE..=PROFILE_LAST).contains(&offset)
-        && (offset == LOCK_BYTE || profile[LOCK_BYTE as usize] == UNLOCKED)
+        && (offset == LOCK_BYTE || profile[usize::from(LOCK_BYTE)] == UNLOCKED)
 }
 
 // Only bank 1 has locations that can be written.
@@ -106,17 +108,6 @@ fn writable(banks: Banks, bank: u8, offset: u8) -> bool
     ensures { result ≡ writable banks bank offset }
 {
     bank == MEMORY_BANK_PROFILE && profile_writable(banks.profile, offset)
-}
-
-// Offsets past the end store nothing.
-pub fn stored_at<const N: usize>(mut bytes: [u8; N], offset: u8, value: u8) -> [u8; N]
-    ensures { result ≡ stored_at N bytes.entry offset value }
-{
-    let at = offset as usize;
-    if at < N {
-        bytes[at] = value;
-    }
-    bytes
 }
 
 // `unstored` is an injected fault: nothing is stored, and the write is answered all the same.

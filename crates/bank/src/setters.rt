@@ -3,7 +3,8 @@ ghost use Rattle.std.specs.Prelude.{◌≡◌};
 ghost use Rattle.bank.specs.Setters.{set_bank1_lock_byte, set_bank1_location, set_logical_gear_unit, set_bank0_last_offset, cleared, clear_identification_number};
 
 use crate::build::Banks;
-use crate::memory::{LOCK_BYTE, stored_at};
+use crate::memory::LOCK_BYTE;
+use numbers::entries::stored_at;
 
 #[tactic(auto, unfolding(crate::specs::Setters::set_bank1_lock_byte))]
 pub fn set_bank1_lock_byte(banks: Banks, value: u8) -> Banks

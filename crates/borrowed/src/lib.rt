@@ -1,4 +1,5 @@
-// The two calls of a host that has one gear (document 02, item 10): each borrows its record and updates it there.
+// The two calls of a host that has one gear (document 02, item 10): each borrows its record and updates it there. A function for the two
+// lines that both end with would have a contract of its own, and be longer than what it saves.
 #![tactic(auto)]
 
 ghost use Rattle.std.specs.Prelude.{◌≡◌};

@@ -20,13 +20,11 @@ pub enum Address {
 fn addressed(gear: Gear, address: Address) -> bool
     ensures { result ≡ addressed gear address }
 {
-    let short = gear.unit.short;
-    let groups = gear.settings.groups;
     match address {
-        Address::Short(number) => short == Some(number),
-        Address::Group(group) => is_member(groups, group),
+        Address::Short(number) => gear.unit.short == Some(number),
+        Address::Group(group) => is_member(gear.settings.groups, group),
         Address::Broadcast => true,
-        Address::Unaddressed => short.is_none(),
+        Address::Unaddressed => gear.unit.short.is_none(),
     }
 }
 

@@ -2,6 +2,7 @@
 ghost use Rattle.std.specs.Prelude.{◌≡◌};
 ghost use Rattle.calls.specs.Colours.{recoloured, tc_step_call, xy_step_call, store_tc_limit_call, stage_call, activate_call, copy_report_call, set_features_call, color_value_call, colour_status_call, features_call, control_call, feature_byte_call, automatic_call};
 
+use crate::reads::tell_byte;
 use colour::activation::{activate_pending_color as activate, automatic_activation as automatic};
 use colour::record::Colour;
 use colour::setting::ColourSetting;
@@ -11,7 +12,7 @@ use colour::value::{
     color_value as value_of, dt8_colour_status as status_of, dt8_features as features_of,
     gear_features_byte as feature_byte, rgbwaf_control_byte as control_of,
 };
-use gear::answer::{Answer, Outcome, Reply, done, flag, unexplained, value_answer};
+use gear::answer::{Answer, Outcome, done, flag, unexplained, value_answer};
 use gear::record::Gear;
 use gear::serve::{serve, tell};
 
@@ -81,18 +82,18 @@ pub fn color_value(gear: Gear, id: u8) -> Answer
     tell(gear, value_answer(value_of(gear.colour, id)))
 }
 
-#[tactic(auto, unfolding(crate::specs::Colours::colour_status_call, gear::specs::Serve::tell))]
+#[tactic(auto, unfolding(crate::specs::Colours::colour_status_call))]
 pub fn dt8_colour_status(gear: Gear) -> Answer
     ensures { result ≡ colour_status_call gear }
 {
-    tell(gear, Ok(Reply::Value(u16::from(status_of(gear.colour)))))
+    tell_byte(gear, status_of(gear.colour))
 }
 
-#[tactic(auto, unfolding(crate::specs::Colours::features_call, gear::specs::Serve::tell))]
+#[tactic(auto, unfolding(crate::specs::Colours::features_call))]
 pub fn dt8_features(gear: Gear) -> Answer
     ensures { result ≡ features_call gear }
 {
-    tell(gear, Ok(Reply::Value(u16::from(features_of(gear.colour)))))
+    tell_byte(gear, features_of(gear.colour))
 }
 
 // Part 209's query 251, which a gear without channels does not answer.
@@ -103,11 +104,11 @@ pub fn rgbwaf_control_byte(gear: Gear) -> Answer
     tell(gear, unexplained(value_answer(control_of(gear.colour))))
 }
 
-#[tactic(auto, unfolding(crate::specs::Colours::feature_byte_call, gear::specs::Serve::tell))]
+#[tactic(auto, unfolding(crate::specs::Colours::feature_byte_call))]
 pub fn gear_features_byte(gear: Gear) -> Answer
     ensures { result ≡ feature_byte_call gear }
 {
-    tell(gear, Ok(Reply::Value(u16::from(feature_byte(gear.colour)))))
+    tell_byte(gear, feature_byte(gear.colour))
 }
 
 #[tactic(auto, unfolding(crate::specs::Colours::automatic_call, gear::specs::Serve::tell))]

@@ -1,6 +1,7 @@
 // Memory calls: those of the bank library, under the fit test.
-ghost use Rattle.std.specs.Prelude.{◌≡◌};
+ghost use Rattle.std.specs.Prelude.{◌≡◌, Ok};
 ghost use Rattle.calls.specs.Memory.{rebanked, memory_location_call, write_memory_call, advances_call, implements_call, set_lock_call, set_location_call, set_unit_call, set_last_call, clear_number_call};
+ghost use Rattle.gear.specs.declared.answer.Reply.TheVariants.{Done};
 
 use bank::build::Banks;
 use bank::memory::{
@@ -12,7 +13,7 @@ use bank::setters::{
     set_bank1_location as set_location, set_bank1_lock_byte as set_lock,
     set_logical_gear_unit as set_unit,
 };
-use gear::answer::{Answer, Outcome, Reply, flag, location_answer};
+use gear::answer::{Answer, Outcome, done, flag, location_answer};
 use gear::record::Gear;
 use gear::serve::{serve, tell};
 
@@ -26,26 +27,29 @@ pub fn memory_location(gear: Gear, bank: u8, offset: u8) -> Answer
     )
 }
 
-// The answer, and the record with other banks, if it is fit.
+// The record with other banks, if it is fit.
 #[tactic(auto, unfolding(crate::specs::Memory::rebanked))]
-fn rebanked(gear: Gear, answer: Answer, banks: Banks) -> Outcome
-    ensures { result ≡ rebanked gear answer banks }
+fn rebanked(gear: Gear, banks: Banks) -> Outcome
+    ensures { result ≡ rebanked gear (Ok Done) banks }
 {
-    let outcome = Outcome {
-        answer,
-        gear: Gear { banks, ..gear },
-    };
-    serve(gear, outcome)
+    serve(gear, done(Gear { banks, ..gear }))
 }
 
 // Write enable is not asked for.
-#[tactic(auto, unfolding(crate::specs::Memory::write_memory_call))]
+#[tactic(auto, unfolding(crate::specs::Memory::write_memory_call, crate::specs::Memory::rebanked))]
 pub fn write_memory_location(gear: Gear, bank: u8, offset: u8, value: u8) -> Outcome
     ensures { result ≡ write_memory_call gear bank offset value }
 {
     let unstored = gear.condition.faults.unstored;
     let written = write_location(gear.banks, unstored, bank, offset, value);
-    rebanked(gear, location_answer(written.answer), written.banks)
+    let outcome = Outcome {
+        answer: location_answer(written.answer),
+        gear: Gear {
+            banks: written.banks,
+            ..gear
+        },
+    };
+    serve(gear, outcome)
 }
 
 #[tactic(auto, unfolding(crate::specs::Memory::advances_call, gear::specs::Serve::tell))]
@@ -69,37 +73,33 @@ pub fn implements_bank(gear: Gear, bank: u8) -> Answer
 pub fn set_bank1_lock_byte(gear: Gear, value: u8) -> Outcome
     ensures { result ≡ set_lock_call gear value }
 {
-    rebanked(gear, Ok(Reply::Done), set_lock(gear.banks, value))
+    rebanked(gear, set_lock(gear.banks, value))
 }
 
 #[tactic(auto, unfolding(crate::specs::Memory::set_location_call))]
 pub fn set_bank1_location(gear: Gear, offset: u8, value: u8) -> Outcome
     ensures { result ≡ set_location_call gear offset value }
 {
-    rebanked(
-        gear,
-        Ok(Reply::Done),
-        set_location(gear.banks, offset, value),
-    )
+    rebanked(gear, set_location(gear.banks, offset, value))
 }
 
 #[tactic(auto, unfolding(crate::specs::Memory::set_unit_call))]
 pub fn set_logical_gear_unit(gear: Gear, units: u8, index: u8) -> Outcome
     ensures { result ≡ set_unit_call gear units index }
 {
-    rebanked(gear, Ok(Reply::Done), set_unit(gear.banks, units, index))
+    rebanked(gear, set_unit(gear.banks, units, index))
 }
 
 #[tactic(auto, unfolding(crate::specs::Memory::set_last_call))]
 pub fn set_bank0_last_offset(gear: Gear, last: u8) -> Outcome
     ensures { result ≡ set_last_call gear last }
 {
-    rebanked(gear, Ok(Reply::Done), set_last(gear.banks, last))
+    rebanked(gear, set_last(gear.banks, last))
 }
 
 #[tactic(auto, unfolding(crate::specs::Memory::clear_number_call))]
 pub fn clear_identification_number(gear: Gear) -> Outcome
     ensures { result ≡ clear_number_call gear }
 {
-    rebanked(gear, Ok(Reply::Done), clear_number(gear.banks))
+    rebanked(gear, clear_number(gear.banks))
 }

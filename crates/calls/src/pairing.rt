@@ -6,16 +6,23 @@ use gear::answer::{Answer, Outcome, Reply, flag};
 use gear::record::Gear;
 use gear::serve::{serve, tell};
 
-// Bit 0: the frame is carried out; bit 1: it completed a pair; bit 2: it split another one.
+// The bits of the answer to a frame: it is carried out; it completed a pair; it split another one.
+const CARRIED_OUT: u16 = 1;
+
+const COMPLETED: u16 = 2;
+
+const SPLIT: u16 = 4;
+
+// To a frame that completes none: a first copy is not carried out.
 #[tactic(auto, unfolding(crate::specs::Pairing::heard_answer))]
 pub fn heard_answer(repeats: bool, split: bool) -> Answer
     ensures { result ≡ heard_answer repeats split }
 {
     Ok(Reply::Value(match (repeats, split) {
-        (true, true) => 4,
+        (true, true) => SPLIT,
         (true, false) => 0,
-        (false, true) => 5,
-        (false, false) => 1,
+        (false, true) => CARRIED_OUT | SPLIT,
+        (false, false) => CARRIED_OUT,
     }))
 }
 
@@ -38,7 +45,7 @@ fn heard(gear: Gear, frame: u16, repeats: bool) -> Outcome
 {
     let pair = gear.marks.pair;
     if pair == Some(frame) {
-        return paired(gear, Ok(Reply::Value(3)), None);
+        return paired(gear, Ok(Reply::Value(CARRIED_OUT | COMPLETED)), None);
     }
     paired(
         gear,

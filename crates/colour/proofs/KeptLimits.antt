@@ -10,18 +10,14 @@ use Rattle.colour.specs.declared.limits.Limits.{Limits}
 use Rattle.colour.specs.declared.record.Capabilities.{Capabilities}
 use Rattle.colour.specs.declared.record.Colour.{Colour}
 use Rattle.colour.specs.declared.tint.Tint.{Tint}
-use Rattle.colour.specs.Limits.{effective_coolest, effective_warmest, rendered, store_limit, store_coolest, store_warmest, store_physical, pulled}
-use Rattle.numbers.specs.Numbers.{both, pick, clamp_to}
+use Rattle.colour.specs.Limits.{effective, effective_coolest, effective_warmest, rendered, store_limit, store_coolest, store_warmest, store_physical, pulled}
+use Rattle.numbers.specs.Numbers.{both, clamp_to}
 use Rattle.colour.specs.Record.{fresh, reset}
 use Rattle.colour.specs.Steps.{store_tc_limit, snapped}
 use Rattle.colour.specs.Tint.{lies_within, is_cct}
 use Rattle.colour.proofs.Fit.{Ordered, Fit}
 use Rattle.numbers.proofs.Logic.{by_cases, both_true, both_left, both_right}
 use Rattle.colour.proofs.Kept.{within_lies}
-
--- the effective limit, from a stored and a physical one
-abbrev effective : ℕ → ℕ → ℕ
-effective stored physical = pick (eqb stored 65535) physical stored
 
 -- 'in order', with the effective limits named
 in_order :

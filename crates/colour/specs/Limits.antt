@@ -1,11 +1,17 @@
 -- The limits of a colour temperature (part 209, 9.13 and table 9). A stored limit of 65,535 gives way to the physical one.
-use Rattle.std.specs.Prelude.{ℕ, min, max, Bool, eqb, leb, ltb}
+use Rattle.std.specs.Prelude.{ℕ, min, max, Bool, Option, None, Some, eqb, leb, ltb}
 use Rattle.colour.specs.declared.limits.Limits.{Limits}
 use Rattle.colour.specs.declared.limits.Range.{Range}
+use Rattle.colour.specs.declared.limits.TcLimit.{TcLimit}
+use Rattle.colour.specs.declared.limits.TcLimit.TheVariants.{Coolest, Warmest, PhysicalCoolest, PhysicalWarmest}
 use Rattle.numbers.specs.Numbers.{both, pick, clamp_to}
 
 abbrev pub range : ℕ → ℕ → Range
 range coolest warmest = record { coolest = coolest; warmest = warmest }
+
+-- the limit in effect, from a stored and a physical one
+abbrev pub effective : ℕ → ℕ → ℕ
+effective stored physical = pick (eqb stored 65535) physical stored
 
 unfoldable pub effective_coolest : Limits → ℕ
 effective_coolest l = pick (eqb l.stored.coolest 65535) l.physical.coolest l.stored.coolest
@@ -57,6 +63,18 @@ store_physical low high l =
       stored = range (pulled l.stored.coolest low high) (pulled l.stored.warmest low high);
       physical = range low high;
     }
+
+-- the selector of each limit, and the limit that a selector names; above 3 none
+abbrev pub selector_of : TcLimit → ℕ
+selector_of Coolest = 0
+selector_of Warmest = 1
+selector_of PhysicalCoolest = 2
+selector_of PhysicalWarmest = 3
+
+unfoldable pub selected : ℕ → Option TcLimit
+selected s =
+    pick (eqb s 0) (Some Coolest)
+    (pick (eqb s 1) (Some Warmest) (pick (eqb s 2) (Some PhysicalCoolest) (pick (eqb s 3) (Some PhysicalWarmest) None)))
 
 -- the limit that the selector names: 2 and 3 stop at the other physical limit and ignore 65,535; above 3 there is none
 unfoldable pub store_limit : Limits → ℕ → ℕ → Limits

@@ -1,5 +1,5 @@
 -- A colour with its mode, and how it is stored.
-use Rattle.std.specs.Prelude.{ℕ, Bool, true, false, leb, replicate}
+use Rattle.std.specs.Prelude.{ℕ, Bool, true, false, eqb, leb, replicate}
 use Rattle.colour.specs.declared.limits.Limits.{Limits}
 use Rattle.colour.specs.declared.setting.ColourSetting.{ColourSetting}
 use Rattle.colour.specs.declared.tint.Tint.{Tint}
@@ -28,6 +28,10 @@ is_lit m = by_mode m false true true true
 
 abbrev pub colour_type_byte : ColorMode → ℕ
 colour_type_byte m = by_mode m 0xFF 0x10 0x20 0x80
+
+-- any byte but the three types is no mode
+abbrev pub mode_of : ℕ → ColorMode
+mode_of n = pick (eqb n 0x10) Xy (pick (eqb n 0x20) Cct (pick (eqb n 0x80) Rgb None))
 
 abbrev pub dark : ℕ → Tint
 dark control = record { mode = None; x = 0; y = 0; tc = 0; levels = replicate 6 0; control = control }

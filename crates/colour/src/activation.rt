@@ -28,7 +28,9 @@ pub fn chosen(control: u8, staged: u8) -> u8
     }
 }
 
-// The active colour once the staged one is put in its place. A colour temperature is clamped here, and not before.
+// The active colour once the staged one is put in its place. A colour temperature is clamped here, and not before. It takes the parts: with
+// the colour whole here and in `strays`, and `==` for `matches!`, a step of the mix 'power' (bench/run) took 192 instructions with its line and
+// not 183, where the old form took 182.
 #[tactic(auto, unfolding(crate::specs::Activation::activated))]
 fn activated(active: Tint, pending: Tint, limits: Limits) -> Tint
     ensures { result ≡ activated active pending limits }
@@ -65,7 +67,7 @@ fn activated(active: Tint, pending: Tint, limits: Limits) -> Tint
 fn strays(outside: bool, pending: Tint, limits: Limits) -> bool
     ensures { result ≡ strays outside pending limits }
 {
-    if pending.mode.is_cct() {
+    if matches!(pending.mode, ColorMode::Cct) {
         limits.hold(pending.tc) != pending.tc
     } else {
         outside
@@ -97,7 +99,8 @@ fn is_idle(colour: Colour) -> bool
     ensures { result ≡ is_idle colour }
 {
     !automatic_activation(colour)
-        || !colour.pending.mode.is_lit() && colour.pending.control == ColourSetting::CONTROL_MASK
+        || matches!(colour.pending.mode, ColorMode::None)
+            && colour.pending.control == ColourSetting::CONTROL_MASK
 }
 
 // Part 209, 9.12.5: a change of arc power activates what is staged, where automatic activation is on.

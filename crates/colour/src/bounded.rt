@@ -2,7 +2,7 @@
 ghost use Rattle.std.specs.Prelude.{◌≡◌};
 ghost use Rattle.colour.specs.Bounded.{store_bounded};
 
-use crate::limits::Limits;
+use crate::limits::{Limits, TcLimit};
 use crate::tint::ColorMode;
 
 #[derive(Clone, Copy)]
@@ -15,15 +15,15 @@ pub struct BoundedTc {
 
 impl BoundedTc {
     // Part 209, 9.13: the limit that the selector names, and then an active colour temperature is snapped and marked.
-    #[tactic(auto, unfolding(crate::specs::Steps::store_tc_limit, crate::specs::Steps::snapped, crate::specs::Steps::snaps))]
+    #[tactic(auto, unfolding(crate::specs::Limits::selected, crate::specs::Steps::store_tc_limit, crate::specs::Steps::snapped, crate::specs::Steps::snaps))]
     pub fn store(self, value: u16, selector: u8) -> BoundedTc
         ensures { result ≡ store_bounded self value selector }
     {
-        if 3 < selector {
+        let Some(limit) = TcLimit::of(selector) else {
             return self;
-        }
-        let limits = self.limits.store(value, selector);
-        if !self.mode.is_cct() {
+        };
+        let limits = self.limits.store(value, limit);
+        if self.mode != ColorMode::Cct {
             return BoundedTc { limits, ..self };
         }
         let tc = limits.hold(self.tc);

@@ -13,8 +13,9 @@ pub enum Kind {
     Report,
 }
 
-// Part 209, table 11: the number of each id's kind, in the order above from 1; 0 where no gear has the id. Bytes, since the check computes
-// a table of bytes whole, and none of enum values (tried).
+// Part 209, table 11: the number of each id's kind, in the order above from 1; 0 where no gear has the id. Document 01 asks for it: 'one
+// constant table from id to kind', 'read by one lookup'. Bytes, since the check computes a table of bytes whole; one of `Option<Kind>` it
+// makes in 256 steps, and the proof that it has the rule's kind at every id didn't close (tried).
 const KINDS: [u8; 256] = [
     1, 1, 1, 0, 0, 0, 0, 0, 0, 1, 1, 1, 1, 1, 1, 1, 0, 0, 0, 0, 0, 0, 0, 0, 0, 0, 0, 0, 0, 0, 0, 0,
     0, 0, 0, 0, 0, 0, 0, 0, 0, 0, 0, 0, 0, 0, 0, 0, 0, 0, 0, 0, 0, 0, 0, 0, 0, 0, 0, 0, 0, 0, 0, 0,
@@ -26,7 +27,7 @@ const KINDS: [u8; 256] = [
     6, 6, 6, 0, 0, 0, 0, 0, 0, 6, 6, 6, 6, 6, 6, 6, 6, 0, 0, 0, 0, 0, 0, 0, 0, 0, 0, 0, 0, 0, 0, 0,
 ];
 
-// The kind of a number of the table.
+// The kind of a number of the table; none for 0. An error in its place, as TryFrom wants one, would say no more.
 #[tactic(auto, unfolding(crate::specs::Kinds::kind_numbered))]
 fn kind_numbered(number: u8) -> Option<Kind>
     ensures { result ≡ kind_numbered number }
@@ -42,7 +43,7 @@ fn kind_numbered(number: u8) -> Option<Kind>
     }
 }
 
-// None where no gear has the id.
+// None where no gear has the id. A cast, since with `usize::from` the proof from the computed table didn't close (tried).
 pub(crate) fn kind_of(id: u8) -> Option<Kind>
     ensures { result ≡ kind_of id }
 {

@@ -1,9 +1,34 @@
 // The limits of a colour temperature, in mirek: those stored for the gear, and the physical ones behind them.
 ghost use Rattle.std.specs.Prelude.{◌≡◌};
 ghost use Rattle.colour.specs.Activation.{within};
-ghost use Rattle.colour.specs.Limits.{effective_coolest, effective_warmest, limits_fit, pulled, rendered, store_coolest, store_warmest, store_physical, store_limit};
+ghost use Rattle.colour.specs.Limits.{effective, effective_coolest, effective_warmest, limits_fit, pulled, selected, selector_of, store_coolest, store_warmest, store_physical, store_limit};
 
 use numbers::clamp;
+
+// What a limit store names by its selector (part 209, table 9).
+#[derive(Clone, Copy, PartialEq, Eq, Debug)]
+pub enum TcLimit {
+    Coolest,
+    Warmest,
+    PhysicalCoolest,
+    PhysicalWarmest,
+}
+
+impl TcLimit {
+    // None for a selector that names no limit: an error in its place, as TryFrom wants one, would say no more.
+    #[tactic(auto, unfolding(crate::specs::Limits::selected))]
+    pub(crate) fn of(selector: u8) -> Option<TcLimit>
+        ensures { result ≡ selected selector }
+    {
+        match selector {
+            0 => Some(TcLimit::Coolest),
+            1 => Some(TcLimit::Warmest),
+            2 => Some(TcLimit::PhysicalCoolest),
+            3 => Some(TcLimit::PhysicalWarmest),
+            _ => None,
+        }
+    }
+}
 
 #[derive(Clone, Copy)]
 pub struct Range {
@@ -25,23 +50,14 @@ impl Limits {
     pub fn effective_coolest(self) -> u16
         ensures { result ≡ effective_coolest self }
     {
-        if self.stored.coolest == Limits::UNSET {
-            self.physical.coolest
-        } else {
-            self.stored.coolest
-        }
+        effective(self.stored.coolest, self.physical.coolest)
     }
 
-    // A twin in two fields: one function would take both numbers from its caller, and be no plainer.
     #[tactic(auto, unfolding(crate::specs::Limits::effective_warmest))]
     pub fn effective_warmest(self) -> u16
         ensures { result ≡ effective_warmest self }
     {
-        if self.stored.warmest == Limits::UNSET {
-            self.physical.warmest
-        } else {
-            self.stored.warmest
-        }
+        effective(self.stored.warmest, self.physical.warmest)
     }
 
     // A colour temperature held within the effective limits.
@@ -64,43 +80,34 @@ impl Limits {
             && self.physical.warmest < Limits::UNSET
     }
 
-    // A limit asked for, within the physical pair.
-    fn rendered(self, value: u16) -> u16
-        ensures { result ≡ rendered value self }
-    {
-        clamp(value, self.physical.coolest, self.physical.warmest)
-    }
-
-    // Selector 0: the coolest limit, which drags the warmest along where they would cross.
-    #[tactic(auto, unfolding(crate::specs::Limits::store_coolest))]
+    // The coolest limit, within the physical pair; it drags the warmest along where they would cross.
+    #[tactic(auto, unfolding(crate::specs::Limits::store_coolest, crate::specs::Limits::pulled))]
     fn store_coolest(self, value: u16) -> Limits
         ensures { result ≡ store_coolest value self }
     {
-        let mut stored = self.stored;
-        if value == Limits::UNSET {
-            stored.coolest = Limits::UNSET;
-            return Limits { stored, ..self };
-        }
-        stored.coolest = self.rendered(value);
-        if self.effective_warmest() < stored.coolest {
-            stored.warmest = stored.coolest;
+        let coolest = pulled(value, self.physical);
+        let mut stored = Range {
+            coolest,
+            ..self.stored
+        };
+        if value != Limits::UNSET && self.effective_warmest() < coolest {
+            stored.warmest = coolest;
         }
         Limits { stored, ..self }
     }
 
-    // Selector 1: the warmest limit, which drags the coolest along where they would cross.
-    #[tactic(auto, unfolding(crate::specs::Limits::store_warmest))]
+    // Its mirror: one function for both would ask which end it is for the field, for the way they cross and for the one that is dragged.
+    #[tactic(auto, unfolding(crate::specs::Limits::store_warmest, crate::specs::Limits::pulled))]
     fn store_warmest(self, value: u16) -> Limits
         ensures { result ≡ store_warmest value self }
     {
-        let mut stored = self.stored;
-        if value == Limits::UNSET {
-            stored.warmest = Limits::UNSET;
-            return Limits { stored, ..self };
-        }
-        stored.warmest = self.rendered(value);
-        if stored.warmest < self.effective_coolest() {
-            stored.coolest = stored.warmest;
+        let warmest = pulled(value, self.physical);
+        let mut stored = Range {
+            warmest,
+            ..self.stored
+        };
+        if value != Limits::UNSET && warmest < self.effective_coolest() {
+            stored.coolest = warmest;
         }
         Limits { stored, ..self }
     }
@@ -119,37 +126,46 @@ impl Limits {
         }
     }
 
-    // Part 209, table 9: the limit that the selector names. A physical limit stops at the other one and ignores 65,535.
-    // A selector above 3 names none. It is a byte from outside: an enum would be matched a second time, and be no plainer.
+    // Part 209, table 9. A physical limit stops at the other one and ignores 65,535.
     #[tactic(auto, unfolding(crate::specs::Limits::store_limit))]
-    pub(crate) fn store(self, value: u16, selector: u8) -> Limits
-        ensures { result ≡ store_limit self value selector }
+    pub(crate) fn store(self, value: u16, limit: TcLimit) -> Limits
+        ensures { result ≡ store_limit self value (selector_of limit) }
     {
         let Range { coolest, warmest } = self.physical;
-        match selector {
-            0 => self.store_coolest(value),
-            1 => self.store_warmest(value),
+        match limit {
+            TcLimit::Coolest => self.store_coolest(value),
+            TcLimit::Warmest => self.store_warmest(value),
             _ if value == Limits::UNSET => self,
-            2 => self.with_physical(Range {
+            TcLimit::PhysicalCoolest => self.with_physical(Range {
                 coolest: value.min(warmest),
                 warmest,
             }),
-            3 => self.with_physical(Range {
+            TcLimit::PhysicalWarmest => self.with_physical(Range {
                 coolest,
                 warmest: value.max(coolest),
             }),
-            _ => self,
         }
     }
 }
 
-// A stored limit held within new physical ones; 65,535 is no limit and stays.
-#[tactic(auto, unfolding(crate::specs::Limits::pulled))]
-fn pulled(stored: u16, physical: Range) -> u16
-    ensures { result ≡ pulled stored physical.coolest physical.warmest }
+// The limit in effect: the stored one, or the physical one behind it where none is stored.
+fn effective(stored: u16, physical: u16) -> u16
+    ensures { result ≡ effective stored physical }
 {
     if stored == Limits::UNSET {
-        return stored;
+        physical
+    } else {
+        stored
     }
-    clamp(stored, physical.coolest, physical.warmest)
+}
+
+// A limit held within physical ones; 65,535 is no limit and stays.
+#[tactic(auto, unfolding(crate::specs::Limits::pulled))]
+fn pulled(limit: u16, physical: Range) -> u16
+    ensures { result ≡ pulled limit physical.coolest physical.warmest }
+{
+    if limit == Limits::UNSET {
+        return limit;
+    }
+    clamp(limit, physical.coolest, physical.warmest)
 }

@@ -31,17 +31,16 @@ impl Colour {
     // Every channel linked.
     pub const POWER_UP_CONTROL: u8 = 0x3F;
 
-    // The colour of a new gear with these physical limits: no colour active, none staged. Two numbers, as `fresh` and the profile have them.
+    // The colour of a new gear with these physical limits: no colour active, none staged.
     #[tactic(auto, unfolding(crate::specs::Record::fresh))]
-    pub fn fresh(can: Capabilities, coolest: u16, warmest: u16) -> Colour
-        ensures { result ≡ fresh can coolest warmest }
+    pub fn fresh(can: Capabilities, physical: Range) -> Colour
+        ensures { result ≡ fresh can physical.coolest physical.warmest }
     {
-        let range = Range { coolest, warmest };
         Colour {
             can,
             limits: Limits {
-                stored: range,
-                physical: range,
+                stored: physical,
+                physical,
             },
             active: Tint::dark(Colour::POWER_UP_CONTROL),
             outside: false,
@@ -56,11 +55,10 @@ impl Colour {
     pub fn reset(self) -> Colour
         ensures { result ≡ reset self }
     {
-        let Range { coolest, warmest } = self.limits.physical;
         Colour {
             active: self.active,
             outside: self.outside,
-            ..Colour::fresh(self.can, coolest, warmest)
+            ..Colour::fresh(self.can, self.limits.physical)
         }
     }
 

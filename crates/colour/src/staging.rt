@@ -18,30 +18,31 @@ pub struct Taken {
 fn load(pending: Tint, setting: ColourSetting) -> Tint
     ensures { result ≡ load pending setting }
 {
-    match setting.kind {
-        ColourSetting::XY => Tint {
-            mode: ColorMode::Xy,
+    let mode = ColorMode::from(setting.kind);
+    match mode {
+        ColorMode::None => pending.unstaged(),
+        ColorMode::Xy => Tint {
+            mode,
             x: setting.x,
             y: setting.y,
             control: ColourSetting::CONTROL_MASK,
             ..pending
         },
-        ColourSetting::TC => Tint {
-            mode: ColorMode::Cct,
+        ColorMode::Cct => Tint {
+            mode,
             tc: setting.tc,
             control: ColourSetting::CONTROL_MASK,
             ..pending
         },
-        ColourSetting::RGBWAF => {
+        ColorMode::Rgb => {
             let levels = setting.levels;
             Tint {
-                mode: ColorMode::Rgb,
+                mode,
                 levels,
                 control: setting.control,
                 ..pending
             }
         }
-        _ => pending.unstaged(),
     }
 }
 
@@ -67,7 +68,7 @@ pub fn copy_report_to_temporary(colour: Colour) -> Colour
 pub fn take_staged_colour(colour: Colour, kept: ColourSetting) -> Taken
     ensures { result ≡ take_staged_colour colour kept }
 {
-    if !colour.pending.mode.is_lit() {
+    if colour.pending.mode == ColorMode::None {
         return Taken {
             setting: kept,
             colour,

@@ -5,7 +5,7 @@ ghost use Rattle.colour.specs.Steps.{stepped_tc, stepped_xy, tc_step, moved, xy_
 use crate::bounded::BoundedTc;
 use crate::limits::Limits;
 use crate::record::Colour;
-use crate::tint::Tint;
+use crate::tint::{ColorMode, Tint};
 
 // How far a coordinate moves in a step, and the last one.
 const XY_STEP: u16 = 256;
@@ -40,7 +40,7 @@ pub fn stepped_xy(at: u16, up: bool) -> u16
 pub fn tc_step(colour: Colour, warmer: bool) -> Colour
     ensures { result ≡ tc_step colour warmer }
 {
-    if !colour.active.mode.is_cct() {
+    if colour.active.mode != ColorMode::Cct {
         return colour;
     }
     Colour {
@@ -76,7 +76,7 @@ fn moved(active: Tint, y_axis: bool, up: bool) -> Tint
 pub fn xy_step(colour: Colour, y_axis: bool, up: bool) -> Colour
     ensures { result ≡ xy_step colour y_axis up }
 {
-    if !colour.active.mode.is_xy() {
+    if colour.active.mode != ColorMode::Xy {
         return colour;
     }
     Colour {

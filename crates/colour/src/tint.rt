@@ -1,10 +1,11 @@
 // A colour with its mode: the active one, or the one that is staged.
 ghost use Rattle.std.specs.Prelude.{◌≡◌};
-ghost use Rattle.colour.specs.Tint.{colour_type_byte, face, captured, unstaged, dark, lies_within, is_cct, is_xy, is_lit};
+ghost use Rattle.colour.specs.Tint.{colour_type_byte, mode_of, face, captured, unstaged, dark, lies_within};
 
 use crate::limits::Limits;
 use crate::setting::ColourSetting;
 
+// The Rust's enum, its `None` too: README says that this follows the Rust in names and structure.
 #[derive(Clone, Copy, PartialEq, Eq, Debug)]
 pub enum ColorMode {
     None,
@@ -37,24 +38,17 @@ impl From<ColorMode> for u8 {
     }
 }
 
-impl ColorMode {
-    pub(crate) fn is_cct(self) -> bool
-        ensures { result ≡ is_cct self }
-    {
-        matches!(self, ColorMode::Cct)
-    }
+// The mode of a type byte: none for any byte but the three.
+impl From<u8> for ColorMode {
+    ghost from_gives = { λ kind mode. mode ≡ mode_of kind };
 
-    pub(crate) fn is_xy(self) -> bool
-        ensures { result ≡ is_xy self }
-    {
-        matches!(self, ColorMode::Xy)
-    }
-
-    // Any mode but none.
-    pub(crate) fn is_lit(self) -> bool
-        ensures { result ≡ is_lit self }
-    {
-        !matches!(self, ColorMode::None)
+    fn from(kind: u8) -> ColorMode {
+        match kind {
+            ColourSetting::XY => ColorMode::Xy,
+            ColourSetting::TC => ColorMode::Cct,
+            ColourSetting::RGBWAF => ColorMode::Rgb,
+            _ => ColorMode::None,
+        }
     }
 }
 
@@ -78,8 +72,8 @@ impl Tint {
     pub(crate) fn lies_within(self, limits: Limits) -> bool
         ensures { result ≡ lies_within self limits }
     {
-        !self.mode.is_cct()
-            || limits.effective_coolest() <= self.tc && self.tc <= limits.effective_warmest()
+        self.mode != ColorMode::Cct
+            || (limits.effective_coolest()..=limits.effective_warmest()).contains(&self.tc)
     }
 
     // Every number as it stands, under the type byte of the mode.

@@ -25,7 +25,7 @@ fn channel_level(levels: [u8; 6], channel: u8, channels: u8) -> u16
         return 0xFF;
     }
     levels
-        .get(channel as usize)
+        .get(usize::from(channel))
         .map_or(0xFF, |level| u16::from(*level))
 }
 
@@ -50,7 +50,8 @@ fn own_or(kind: u8, owner: u8, value: u16, mask: u16) -> u16
 }
 
 // The place of an id among the numbers of an active, staged or reported colour: 0 x, 1 y, 2 temperature, 9 to 14 the
-// channels, 15 the control, 16 the type.
+// channels, 15 the control, 16 the type. Numbers, as table 11 has them: an enum of the places would be made of them by such a match, for
+// this one to match again.
 #[tactic(auto, unfolding(crate::specs::Value::shown))]
 fn shown(can: Capabilities, setting: ColourSetting, place: u8) -> Result<u16, NoValue>
     ensures { result ≡ shown can setting place }
@@ -84,18 +85,19 @@ fn shown(can: Capabilities, setting: ColourSetting, place: u8) -> Result<u16, No
     }
 }
 
-// The four Tc limits, in the order of their ids.
+// The four Tc limits, in the order of their ids, by their places as above.
 #[tactic(auto, unfolding(crate::specs::Value::limit_value))]
-fn limit_value(can: Capabilities, limits: Limits, place: u8) -> Result<u16, NoValue>
-    ensures { result ≡ limit_value can limits place }
+fn limit_value(colour: Colour, place: u8) -> Result<u16, NoValue>
+    ensures { result ≡ limit_value colour.can colour.limits place }
 {
+    let Limits { stored, physical } = colour.limits;
     let limit = match place {
-        0 => limits.stored.coolest,
-        1 => limits.physical.coolest,
-        2 => limits.stored.warmest,
-        _ => limits.physical.warmest,
+        0 => stored.coolest,
+        1 => physical.coolest,
+        2 => stored.warmest,
+        _ => physical.warmest,
     };
-    if_capable(can, Capability::Tc, limit)
+    if_capable(colour.can, Capability::Tc, limit)
 }
 
 // Part 209, table 11.
@@ -108,7 +110,7 @@ pub fn color_value(colour: Colour, id: u8) -> Result<u16, NoValue>
         Some(Kind::Active) => shown(colour.can, colour.active.face(), place),
         Some(Kind::Primary) => Ok(0xFFFF),
         Some(Kind::Primaries) => Ok(0),
-        Some(Kind::Limit) => limit_value(colour.can, colour.limits, place),
+        Some(Kind::Limit) => limit_value(colour, place),
         Some(Kind::Staged) => shown(colour.can, colour.pending.face(), place),
         Some(Kind::Report) => shown(colour.can, colour.report, place),
         None => Err(NoValue::Unknown),

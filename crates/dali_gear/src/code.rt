@@ -7,7 +7,7 @@ use file::Malformed;
 use gear::answer::{Answer, Reply};
 use runner::run::RunError;
 
-// The C interface: numbers, since C has no enum with a value.
+// The numbers are the C header's, host/include/dali_gear.h: C has no enum with a value.
 const DONE: u32 = 0;
 
 const MALFORMED: u32 = 5;
@@ -20,88 +20,93 @@ const SHORT: u32 = 18;
 
 const INCAPABLE: u32 = 19;
 
-#[tactic(auto, unfolding(crate::specs::Code::verdict_code))]
-pub fn verdict_code(verdict: Result<(), Malformed>) -> u32
-    ensures { result ≡ verdict_code verdict }
-{
-    match verdict {
-        Ok(()) => DONE,
-        Err(_) => MALFORMED,
+// What a host is told.
+#[derive(Clone, Copy)]
+pub struct Told {
+    code: u32,
+    detail: usize,
+}
+
+impl Told {
+    // The code is what a call returns, and the detail goes where the host wants it.
+    pub fn tell(self, detail: &mut usize) -> u32
+        ensures code { result ≡ self.code }
+        ensures detail { detail.new ≡ self.detail }
+    {
+        *detail = self.detail;
+        self.code
     }
 }
 
-#[tactic(auto, unfolding(crate::specs::Code::verdict_detail))]
-pub fn verdict_detail(verdict: Result<(), Malformed>) -> usize
-    ensures { result ≡ verdict_detail verdict }
-{
-    match verdict {
-        Ok(()) => 0,
-        Err(malformed) => malformed.offset,
+impl From<Malformed> for Told {
+    ghost from_gives = { λ malformed told. (told.code ≡ 5) × (told.detail ≡ malformed.offset) };
+
+    fn from(malformed: Malformed) -> Told {
+        Told {
+            code: MALFORMED,
+            detail: malformed.offset,
+        }
     }
 }
 
-#[tactic(auto, unfolding(crate::specs::Code::ran_code))]
-pub fn ran_code(ran: Result<usize, RunError>) -> u32
-    ensures { result ≡ ran_code ran }
-{
-    match ran {
-        Ok(_) => DONE,
-        Err(RunError::Malformed(_)) => MALFORMED,
-        Err(RunError::Short(_)) => SHORT,
+#[tactic(auto, unfolding(crate::specs::Code::verdict_code, crate::specs::Code::verdict_detail))]
+impl From<Result<(), Malformed>> for Told {
+    ghost from_gives = { λ verdict told. (told.code ≡ verdict_code verdict) × (told.detail ≡ verdict_detail verdict) };
+
+    fn from(verdict: Result<(), Malformed>) -> Told {
+        match verdict {
+            Ok(()) => Told {
+                code: DONE,
+                detail: 0,
+            },
+            Err(malformed) => Told::from(malformed),
+        }
     }
 }
 
-#[tactic(auto, unfolding(crate::specs::Code::ran_detail))]
-pub fn ran_detail(ran: Result<usize, RunError>) -> usize
-    ensures { result ≡ ran_detail ran }
-{
-    match ran {
-        Ok(count) => count,
-        Err(RunError::Malformed(malformed)) => malformed.offset,
-        Err(RunError::Short(wanted)) => wanted,
+#[tactic(auto, unfolding(crate::specs::Code::ran_code, crate::specs::Code::ran_detail))]
+impl From<Result<usize, RunError>> for Told {
+    ghost from_gives = { λ ran told. (told.code ≡ ran_code ran) × (told.detail ≡ ran_detail ran) };
+
+    fn from(ran: Result<usize, RunError>) -> Told {
+        match ran {
+            Ok(count) => Told {
+                code: DONE,
+                detail: count,
+            },
+            Err(RunError::Malformed(malformed)) => Told::from(malformed),
+            Err(RunError::Short(wanted)) => Told {
+                code: SHORT,
+                detail: wanted,
+            },
+        }
     }
 }
 
-#[tactic(auto, unfolding(crate::specs::Code::answer_code))]
-fn answer_code(answer: Answer) -> u32
-    ensures { result ≡ answer_code answer }
-{
-    match answer {
-        Ok(Reply::Done) => DONE,
-        Ok(Reply::Value(_)) => VALUE,
-        Ok(Reply::Nothing) => NOTHING,
-        Ok(Reply::Incapable(_)) => INCAPABLE,
-        Err(refusal) => u32::from(u8::from(refusal)),
+#[tactic(auto, unfolding(crate::specs::Code::answer_code, crate::specs::Code::answer_detail))]
+impl From<Answer> for Told {
+    ghost from_gives = { λ answer told. (told.code ≡ answer_code answer) × (told.detail ≡ answer_detail answer) };
+
+    fn from(answer: Answer) -> Told {
+        let (code, detail) = match answer {
+            Ok(Reply::Done) => (DONE, 0),
+            Ok(Reply::Value(value)) => (VALUE, usize::from(value)),
+            Ok(Reply::Nothing) => (NOTHING, 0),
+            Ok(Reply::Incapable(need)) => (INCAPABLE, usize::from(u8::from(need))),
+            Err(refusal) => (u32::from(u8::from(refusal)), 0),
+        };
+        Told { code, detail }
     }
 }
 
-#[tactic(auto, unfolding(crate::specs::Code::answer_detail))]
-fn answer_detail(answer: Answer) -> usize
-    ensures { result ≡ answer_detail answer }
-{
-    match answer {
-        Ok(Reply::Value(value)) => usize::from(value),
-        Ok(Reply::Incapable(need)) => usize::from(u8::from(need)),
-        Ok(Reply::Done | Reply::Nothing) | Err(_) => 0,
-    }
-}
+#[tactic(auto, unfolding(crate::specs::Code::asked_code, crate::specs::Code::asked_detail))]
+impl From<Result<Answer, Malformed>> for Told {
+    ghost from_gives = { λ asked told. (told.code ≡ asked_code asked) × (told.detail ≡ asked_detail asked) };
 
-#[tactic(auto, unfolding(crate::specs::Code::asked_code))]
-pub fn asked_code(asked: Result<Answer, Malformed>) -> u32
-    ensures { result ≡ asked_code asked }
-{
-    match asked {
-        Ok(answer) => answer_code(answer),
-        Err(_) => MALFORMED,
-    }
-}
-
-#[tactic(auto, unfolding(crate::specs::Code::asked_detail))]
-pub fn asked_detail(asked: Result<Answer, Malformed>) -> usize
-    ensures { result ≡ asked_detail asked }
-{
-    match asked {
-        Ok(answer) => answer_detail(answer),
-        Err(malformed) => malformed.offset,
+    fn from(asked: Result<Answer, Malformed>) -> Told {
+        match asked {
+            Ok(answer) => Told::from(answer),
+            Err(malformed) => Told::from(malformed),
+        }
     }
 }

@@ -1,4 +1,5 @@
-// What a host in C or Rust calls: session files on lent bytes, and answers as numbers. include/dali_gear.h says it for people.
+// What a host in C or Rust calls: session files on lent bytes, and answers as numbers. host/include/dali_gear.h says it for
+// people.
 #![tactic(auto)]
 
 mod code;
@@ -9,16 +10,14 @@ ghost use Rattle.runner.specs.Ask.{asked};
 ghost use Rattle.file.specs.File.{checked};
 ghost use Rattle.runner.specs.Run.{ran, ran_into, reported, reported_into, room};
 
-use crate::code::{asked_code, asked_detail, ran_code, ran_detail, verdict_code, verdict_detail};
+use crate::code::Told;
 
 // Judges a file. The detail is the offset of its lowest fault, or 0.
 pub fn dali_gear_check(file: &[u8], detail: &mut usize) -> u32
     ensures code { result ≡ verdict_code (checked file.now) }
     ensures detail { detail.new ≡ verdict_detail (checked file.now) }
 {
-    let verdict = file::check(file);
-    *detail = verdict_detail(verdict);
-    verdict_code(verdict)
+    Told::from(file::check(file)).tell(detail)
 }
 
 // The bytes that a buffer needs for whatever the file's lines are: 16 for a malformed file.
@@ -35,9 +34,7 @@ pub fn dali_gear_run(file: &[u8], out: &mut [u8], detail: &mut usize) -> u32
     ensures detail { detail.new ≡ ran_detail (ran file.now (length out.old)) }
     ensures buffer { out.new ≡ ran_into file.now out.old }
 {
-    let ran = runner::run::run(file, out);
-    *detail = ran_detail(ran);
-    ran_code(ran)
+    Told::from(runner::run::run(file, out)).tell(detail)
 }
 
 // Writes what the program `session` prints. Of a malformed file that is the line `bad` with the offset, and the code is 0, never 5.
@@ -47,9 +44,7 @@ pub fn dali_gear_report(file: &[u8], out: &mut [u8], detail: &mut usize) -> u32
     ensures detail { detail.new ≡ ran_detail (reported file.now (length out.old)) }
     ensures buffer { out.new ≡ reported_into file.now out.old }
 {
-    let ran = runner::run::report(file, out);
-    *detail = ran_detail(ran);
-    ran_code(ran)
+    Told::from(runner::run::report(file, out)).tell(detail)
 }
 
 // One more step on the record that the file's steps leave. The detail is the value, the number of what the gear lacks for it, or the
@@ -58,7 +53,5 @@ pub fn dali_gear_ask(file: &[u8], kind: u8, a: u8, b: u8, c: u8, detail: &mut us
     ensures code { result ≡ asked_code (asked file.now kind a b c) }
     ensures detail { detail.new ≡ asked_detail (asked file.now kind a b c) }
 {
-    let asked = runner::ask::ask(file, kind, a, b, c);
-    *detail = asked_detail(asked);
-    asked_code(asked)
+    Told::from(runner::ask::ask(file, kind, a, b, c)).tell(detail)
 }

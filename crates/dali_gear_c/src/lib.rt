@@ -1,5 +1,6 @@
-// The library for hosts in C: the functions of dali_gear under their C names, with the same promises; the C interface wants each of them
-// twice. host/include/dali_gear.h says it for people.
+// The library for hosts in C: the functions of dali_gear under their C names, with the same promises. Each of them stands twice, since a
+// crate is a library or a static library, and the theorems stand on dali_gear (docs/DECISIONS.md). host/include/dali_gear.h says it for
+// people.
 #![tactic(auto)]
 
 ghost use Rattle.std.specs.Prelude.{◌≡◌, length};

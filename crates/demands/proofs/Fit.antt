@@ -153,11 +153,11 @@ unit_exactly most u =
 
 accepted_tests :
     (p : Profile) →
-    Exactly ((p.can.channels ≤ 6) × ((p.coolest ≤ p.warmest) × ((p.warmest ≤ 65534) × UnitSo 13 p.unit))) (accepted p)
+    Exactly ((p.can.channels ≤ 6) × ((p.physical.coolest ≤ p.physical.warmest) × ((p.physical.warmest ≤ 65534) × UnitSo 13 p.unit))) (accepted p)
 unfolding accepted
 accepted_tests p =
     also (at_most p.can.channels 6)
-    (also (at_most p.coolest p.warmest) (also (at_most p.warmest 65534) (unit_exactly 13 p.unit)))
+    (also (at_most p.physical.coolest p.physical.warmest) (also (at_most p.physical.warmest 65534) (unit_exactly 13 p.unit)))
 
 pub accepted_exactly : (p : Profile) → Accepted p ↔ (accepted p ≡ true)
 accepted_exactly p = (so, worded)

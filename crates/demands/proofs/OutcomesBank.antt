@@ -1,5 +1,4 @@
 -- One outcome of every public function of bank, by its own promise (`Post`, the function's `ensures`).
-use Rattle.std.proofs.Common.{ℕ, Fits, w64}
 use Rattle.demands.specs.Outcome.{OneOutcome}
 use Rattle.demands.proofs.Outcome.{determined}
 use Rattle.bank.proofs.build
@@ -29,9 +28,6 @@ memory::implements_bank κs args r r' e e' = determined
 
 pub memory::advances_dtr0_past : OneOutcome memory.advances_dtr0_past.Reads.Post
 memory::advances_dtr0_past κs args r r' e e' = determined
-
-pub memory::stored_at : (n : ℕ) (fits_n : Fits w64 n) → OneOutcome (memory.stored_at.Reads.Post n fits_n)
-memory::stored_at n fits_n κs args r r' e e' = determined
 
 pub memory::write_memory_location : OneOutcome memory.write_memory_location.Reads.Post
 memory::write_memory_location κs args r r' e e' = determined

@@ -73,6 +73,9 @@ steps::store_tc_limit κs args r r' e e' = determined
 pub «tint::U8FromColorMode::from» : OneOutcome tint.U8FromColorMode.from.Reads.Post
 «tint::U8FromColorMode::from» κs args r r' e e' = determined
 
+pub «tint::ColorModeFromU8::from» : OneOutcome tint.ColorModeFromU8.from.Reads.Post
+«tint::ColorModeFromU8::from» κs args r r' e e' = determined
+
 pub «tint::Tint::face» : OneOutcome tint.Tint.face.Reads.Post
 «tint::Tint::face» κs args r r' e e' = determined
 

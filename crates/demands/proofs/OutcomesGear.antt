@@ -1,5 +1,6 @@
 -- One outcome of every public function of gear, by its own promise (`Post`, the function's `ensures`).
-use Rattle.demands.specs.Outcome.{OneOutcome}
+use mathlib.Core.Path.{refl}
+use Rattle.demands.specs.Outcome.{OneOutcome, OneSeen}
 use Rattle.demands.proofs.Outcome.{determined}
 use Rattle.gear.proofs.answer
 use Rattle.gear.proofs.command
@@ -15,6 +16,9 @@ use Rattle.gear.proofs.write
 pub «answer::U8FromRefusal::from» : OneOutcome answer.U8FromRefusal.from.Reads.Post
 «answer::U8FromRefusal::from» κs args r r' e e' = determined
 
+pub «answer::ReplyFromU8::from» : OneOutcome answer.ReplyFromU8.from.Reads.Post
+«answer::ReplyFromU8::from» κs args r r' e e' = determined
+
 pub «answer::flag» : OneOutcome answer.flag.Reads.Post
 «answer::flag» κs args r r' e e' = determined
 
@@ -23,6 +27,9 @@ pub «answer::done» : OneOutcome answer.done.Reads.Post
 
 pub «answer::refused» : OneOutcome answer.refused.Reads.Post
 «answer::refused» κs args r r' e e' = determined
+
+pub answer::unchanged : OneOutcome answer.unchanged.Reads.Post
+answer::unchanged κs args r r' e e' = determined
 
 pub answer::value_answer : OneOutcome answer.value_answer.Reads.Post
 answer::value_answer κs args r r' e e' = determined
@@ -107,6 +114,15 @@ pub «serve::tell» : OneOutcome serve.tell.Reads.Post
 
 pub «settings::LevelSetting::unset» : OneOutcome settings.LevelSetting.unset.Reads.Post
 «settings::LevelSetting::unset» κs args r r' e e' = determined
+
+pub settings::store_level : OneOutcome settings.store_level.Reads.Post
+settings::store_level κs args r r' e e' p q = refl
+
+pub settings::store_level_kept : OneSeen (λ κs r e. e.0.now) settings.store_level.Reads.Post
+settings::store_level_kept κs args r r' e e' p q = determined p.0 q.0
+
+pub settings::store_level_colour : OneSeen (λ κs r e. e.1.0.now) settings.store_level.Reads.Post
+settings::store_level_colour κs args r r' e e' p q = determined p.1 q.1
 
 pub settings::store_level_setting : OneOutcome settings.store_level_setting.Reads.Post
 settings::store_level_setting κs args r r' e e' = determined

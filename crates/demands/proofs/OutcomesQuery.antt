@@ -20,6 +20,9 @@ pub «heard::reports» : OneOutcome heard.reports.Reads.Post
 pub «heard::shown» : OneOutcome heard.shown.Reads.Post
 «heard::shown» κs args r r' e e' = determined
 
+pub «heard::level_told» : OneOutcome heard.level_told.Reads.Post
+«heard::level_told» κs args r r' e e' = determined
+
 pub lamp::thermal_shut_down : OneOutcome lamp.thermal_shut_down.Reads.Post
 lamp::thermal_shut_down κs args r r' e e' = determined
 
@@ -37,6 +40,9 @@ reply::gear_query_reply κs args r r' e e' = determined
 
 pub status::status_byte : OneOutcome status.status_byte.Reads.Post
 status::status_byte κs args r r' e e' = determined
+
+pub «told::Seen::of» : OneOutcome told.Seen.of.Reads.Post
+«told::Seen::of» κs args r r' e e' = determined
 
 pub told::query_answer : OneOutcome told.query_answer.Reads.Post
 told::query_answer κs args r r' e e' = determined

@@ -11,6 +11,9 @@ pub «ask::ask» : OneOutcome ask.ask.Reads.Post
 pub «run::room» : OneOutcome run.room.Reads.Post
 «run::room» κs args r r' e e' = determined
 
+pub «run::RunErrorFromMalformed::from» : OneOutcome run.RunErrorFromMalformed.from.Reads.Post
+«run::RunErrorFromMalformed::from» κs args r r' e e' = determined
+
 pub «run::run» : OneOutcome run.run.Reads.Post
 «run::run» κs args r r' e e' p q = determined p.0 q.0
 

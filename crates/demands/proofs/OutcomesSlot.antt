@@ -2,6 +2,7 @@
 use mathlib.Core.Path.{refl}
 use Rattle.demands.specs.Outcome.{OneOutcome, OneSeen}
 use Rattle.demands.proofs.Outcome.{determined}
+use Rattle.slot.specs.Calls.{lent}
 use Rattle.slot.proofs.bytes
 use Rattle.slot.proofs.image
 use Rattle.slot.proofs.parts
@@ -12,9 +13,6 @@ pub «bytes::byte» : OneOutcome bytes.byte.Reads.Post
 
 pub «bytes::flag» : OneOutcome bytes.flag.Reads.Post
 «bytes::flag» κs args r r' e e' = determined
-
-pub bytes::flag_byte : OneOutcome bytes.flag_byte.Reads.Post
-bytes::flag_byte κs args r r' e e' = determined
 
 pub «bytes::word» : OneOutcome bytes.word.Reads.Post
 «bytes::word» κs args r r' e e' = determined
@@ -36,9 +34,6 @@ image::record_of κs args r r' e e' = determined
 
 pub parts::short_of : OneOutcome parts.short_of.Reads.Post
 parts::short_of κs args r r' e e' = determined
-
-pub parts::mode_of : OneOutcome parts.mode_of.Reads.Post
-parts::mode_of κs args r r' e e' = determined
 
 pub parts::levels_of : OneOutcome parts.levels_of.Reads.Post
 parts::levels_of κs args r r' e e' = determined
@@ -70,5 +65,14 @@ parts::condition_of κs args r r' e e' = determined
 pub parts::groups_of : OneOutcome parts.groups_of.Reads.Post
 parts::groups_of κs args r r' e e' = determined
 
+pub parts::fades_of : OneOutcome parts.fades_of.Reads.Post
+parts::fades_of κs args r r' e e' = determined
+
+pub parts::scene_place : OneOutcome parts.scene_place.Reads.Post
+parts::scene_place κs args r r' e e' = determined
+
 pub test::is_held : OneOutcome test.is_held.Reads.Post
 test::is_held κs args r r' e e' = determined
+
+pub «test::tested» : OneSeen (λ κs r e. lent r) test.tested.Reads.Post
+«test::tested» κs args r r' e e' = determined

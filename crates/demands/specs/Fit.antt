@@ -23,7 +23,7 @@ pub record AcceptedUpTo (most : ℕ) (p : Profile) : Type 0 where
   -- 'physical minimum 1 to 254'
   pub minimum : (1 ≤ p.unit.minimum) × (p.unit.minimum ≤ 254)
   -- 'coolest ≤ warmest < 65,535'
-  pub limits : (p.coolest ≤ p.warmest) × (p.warmest < 65535)
+  pub limits : (p.physical.coolest ≤ p.physical.warmest) × (p.physical.warmest < 65535)
 
 abbrev pub Accepted : Profile → Type 0
 Accepted p = AcceptedUpTo 13 p
@@ -50,8 +50,7 @@ profile_of g =
     record {
       unit = g.unit;
       can = g.colour.can;
-      coolest = g.colour.limits.physical.coolest;
-      warmest = g.colour.limits.physical.warmest;
+      physical = g.colour.limits.physical;
     }
 
 -- ## 'A record is fit when'
@@ -69,7 +68,7 @@ pub record Fit (g : Gear) : Type 0 where
   -- 'floor ≤ min ≤ max ≤ 254'
   pub levels : (floor ≤ g.levels.min) × (g.levels.min ≤ g.levels.max) × (g.levels.max ≤ 254)
   -- 'physical coolest ≤ effective coolest ≤ effective warmest ≤ physical warmest'
-  pub limits : ((profile_of g).coolest ≤ coolest) × (coolest ≤ warmest) × (warmest ≤ (profile_of g).warmest)
+  pub limits : ((profile_of g).physical.coolest ≤ coolest) × (coolest ≤ warmest) × (warmest ≤ (profile_of g).physical.warmest)
   -- 'an active Tc colour lies within the effective limits'
   pub active : g.colour.active.mode ≡ Cct → (coolest ≤ g.colour.active.tc) × (g.colour.active.tc ≤ warmest)
   -- 'the type walk is off or at most 16'

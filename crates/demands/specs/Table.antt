@@ -29,8 +29,7 @@ gear types count tc =
             minimum = 1;
           };
       can = record { tc = tc; xy = false; channels = 0 };
-      coolest = 153;
-      warmest = 400;
+      physical = record { coolest = 153; warmest = 400 };
     }
 
 abbrev pub led : Profile

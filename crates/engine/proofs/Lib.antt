@@ -1,4 +1,5 @@
 pub mod Blocks
+pub mod Fades
 pub mod Places
 pub mod Querying
 pub mod Reporting

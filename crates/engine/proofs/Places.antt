@@ -1,6 +1,5 @@
 -- What stands at a computed place: a code, a group's flag, and a scene.
 use Prim.Native.Nat.{ℕ, zero, suc, ◌%◌, ◌*◌, ◌+◌, ◌<◌}
-use mathlib.Core.Bool.{false}
 use mathlib.Core.List.{List}
 use mathlib.Core.Path.{◌≡◌, refl, ap, sym, ◌∙◌}
 use lib.ListN.{drop, get_or}
@@ -8,24 +7,15 @@ use lib.Seq.{drop-drop, get_or-drop}
 use borrow.Author.Tests.{lt-leb}
 use native.Mathlib.Nat.{add-suc, add-zero, suc-add}
 use native.Mathlib.Omega.{arith}
-use Rattle.gear.specs.Scene.{member_at, nowhere, scene_at}
+use Rattle.gear.specs.Scene.{nowhere, scene_at}
 use Rattle.gear.specs.Write.{scene}
 use Rattle.gear.specs.declared.settings.LevelSetting.{LevelSetting}
-use Rattle.slot.specs.Record.{at, bytes_from, flag_at, flags_from, gear_of, setting_in, settings_in}
+use Rattle.slot.specs.Record.{at, bytes_from, gear_of, setting_in, settings_in}
 
 pub bytes_get : (n k i : ℕ) (b : List ℕ) → i < n → get_or (bytes_from n k b) i 0 ≡ at (k + i) b
 bytes_get zero k i b h = absurd (omega arith)
 bytes_get (suc n) k zero b h = rw add-zero
 bytes_get (suc n) k (suc i) b h = rw (add-suc, ← suc-add) (bytes_get n (suc k) i b (omega arith))
-
-flags_at : (n k i : ℕ) (b : List ℕ) → i < n → get_or (flags_from n k b) i false ≡ flag_at (k + i) b
-flags_at zero k i b h = absurd (omega arith)
-flags_at (suc n) k zero b h = rw add-zero
-flags_at (suc n) k (suc i) b h = rw (add-suc, ← suc-add) (flags_at n (suc k) i b (omega arith))
-
-pub member_at_lem : (group : ℕ) (b : List ℕ) → group < 16 → member_at (flags_from 16 32 b) group ≡ flag_at (32 + group) b
-unfolding member_at
-member_at_lem group b h = rw (lt-leb 16 group h) (flags_at 16 32 group b h)
 
 settings_at : (n s : ℕ) (b : List ℕ) → s < n → get_or (settings_in n b) s nowhere ≡ setting_in (drop (15 * s) b)
 settings_at zero s b h = absurd (omega arith)

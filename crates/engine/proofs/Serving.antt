@@ -1,25 +1,28 @@
 -- A call that does its rule's work on every image of a fit record is served; the two refusals.
 use Prim.Native.Nat.{ℕ}
-use mathlib.Core.Path.{◌≡◌, sym}
-use mathlib.Core.Bool.{true, false}
+use mathlib.Core.Path.{◌≡◌, refl, sym}
+use mathlib.Core.Bool.{false, true}
 use mathlib.Core.List.{List}
 use lib.Dec.{eqb}
 use lib.ListN.{get_or, length}
 use mir.Syntax.{w8}
 use mir.Val.{Fits}
-use borrow.Author.Tests.{eq-eqb, ne_eqb}
-use Rattle.std.specs.declared.result.Result.TheVariants.{Err}
+use borrow.Author.Tests.{eq-eqb, eqb-true, ne_eqb}
+use Rattle.std.specs.declared.result.Result.TheVariants.{Err, Ok}
 use Rattle.engine.specs.Served.{Served, left, told}
 use Rattle.engine.specs.Works.{Works}
 use Rattle.gear.specs.declared.answer.Outcome.{Outcome}
+use Rattle.gear.specs.declared.answer.Refusal.{Refusal}
 use Rattle.gear.specs.declared.answer.Refusal.TheVariants.{Length, Unfit}
 use Rattle.gear.specs.declared.record.Gear.{Gear}
 use Rattle.gear.specs.Answer.{Answer}
 use Rattle.gear.specs.Record.{fitb}
 use Rattle.gear.specs.Serve.{serve}
+use Rattle.numbers.proofs.Logic.{by_cases}
 use Rattle.slot.proofs.Forth.{image_forth, is_fit}
 use Rattle.slot.proofs.Lists.{all_bytes}
 use Rattle.slot.proofs.Passes.{held_sound}
+use Rattle.slot.specs.Calls.{tested}
 use Rattle.slot.specs.Held.{Does, Holds, Tells, heldb}
 use Rattle.slot.specs.Record.{gear_of}
 
@@ -41,22 +44,58 @@ by_works rule b b' r works = by_work rule b b' r works.does works.tells
 
 -- ## Refused
 
+pub length_tested : (b : List ℕ) → (length b ≡ 512 → ⊥) → Err Length ≡ tested b
+unfolding tested
+length_tested b h = rw (ne_eqb (length b) 512 h)
+
+pub unfit_tested : (b : List ℕ) → length b ≡ 512 → heldb b ≡ false → Err Unfit ≡ tested b
+unfolding tested
+unfit_tested b long h = rw (eq-eqb (length b) 512 long, h)
+
+pub held_tested : (b : List ℕ) → length b ≡ 512 → heldb b ≡ true → Ok b ≡ tested b
+unfolding tested
+held_tested b long h = rw (eq-eqb (length b) 512 long, h)
+
+pub not_lent : (rule : Gear → Outcome) (b : List ℕ) (refusal : Refusal) → Err refusal ≡ tested b → Served rule b b (Err refusal)
+unfolding tested told left
+not_lent rule b refusal h =
+    by_cases (eqb (length b) 512)
+    (λ e.
+    by_cases (heldb b) (λ held. let no : Err refusal ≡ Ok b = rw (e, held) at h in absurd (cc))
+    (λ held. let is = rw (e, held) at h in let same : refusal ≡ Unfit = cc in record { answer = rw (e, held, same); bytes = rw (e, held) }))
+    (λ e. let is = rw e at h in let same : refusal ≡ Length = cc in record { answer = rw (e, same); bytes = rw e })
+
 pub other_length : (rule : Gear → Outcome) (b : List ℕ) → (length b ≡ 512 → ⊥) → Served rule b b (Err Length)
-unfolding told left
-other_length rule b h = let e : eqb (length b) 512 ≡ false = ne_eqb (length b) 512 h in record { answer = rw e; bytes = rw e }
+other_length rule b h = not_lent rule b Length (length_tested b h)
 
 pub not_held : (rule : Gear → Outcome) (b : List ℕ) → length b ≡ 512 → heldb b ≡ false → Served rule b b (Err Unfit)
-unfolding told left
-not_held rule b len h =
-    let e : eqb (length b) 512 ≡ true = eq-eqb (length b) 512 len in record { answer = rw (e, h); bytes = rw (e, h) }
+unfolding tested
+not_held rule b len h = not_lent rule b Unfit (rw (eq-eqb (length b) 512 len, h) refl)
 
-pub told_other_length : (rule : Gear → Answer) (b : List ℕ) → (length b ≡ 512 → ⊥) → Err Length ≡ told rule b
-unfolding told
-told_other_length rule b h = rw (ne_eqb (length b) 512 h)
+pub told_not_lent : (rule : Gear → Answer) (b : List ℕ) (refusal : Refusal) → Err refusal ≡ tested b → Err refusal ≡ told rule b
+unfolding tested told
+told_not_lent rule b refusal h =
+    by_cases (eqb (length b) 512)
+    (λ e.
+    by_cases (heldb b) (λ held. let no : Err refusal ≡ Ok b = rw (e, held) at h in absurd (cc))
+    (λ held. let is = rw (e, held) at h in let same : refusal ≡ Unfit = cc in rw (e, held, same)))
+    (λ e. let is = rw e at h in let same : refusal ≡ Length = cc in rw (e, same))
 
-pub told_not_held : (rule : Gear → Answer) (b : List ℕ) → length b ≡ 512 → heldb b ≡ false → Err Unfit ≡ told rule b
-unfolding told
-told_not_held rule b len h = rw (eq-eqb (length b) 512 len, h)
+-- what a slot was lent for
+pub record Lent (b l : List ℕ) : Type 0 where
+  pub same : l ≡ b
+  pub long : length b ≡ 512
+  pub held : heldb b ≡ true
+
+pub lent_slot : (b l : List ℕ) → Ok l ≡ tested b → Lent b l
+unfolding tested
+lent_slot b l h =
+    by_cases (eqb (length b) 512)
+    (λ e.
+    by_cases (heldb b)
+    (λ held. let is : Ok l ≡ Ok b = rw (e, held) at h in record { same = cc; long = eqb-true (length b) 512 e; held = held })
+    (λ held. let no : Ok l ≡ Err Unfit = rw (e, held) at h in absurd (cc)))
+    (λ e. let no : Ok l ≡ Err Length = rw e at h in absurd (cc))
 
 -- ## Served
 
@@ -68,9 +107,9 @@ module _ (b : List ℕ) (len : length b ≡ 512) (fits : (i : ℕ) → Fits w8 (
   unfolding told left
   served rule b' r meets =
       let e : eqb (length b) 512 ≡ true = eq-eqb (length b) 512 len in
-      let done = meets (gear_of b) holds (is_fit b len (all_bytes b fits) held) in
+      let done = meets (gear_of b) holds (is_fit b held) in
       record { answer = rw (e, held) done.1; bytes = rw (e, held) done.0.0 }
 
   pub answered : (rule : Gear → Answer) (r : Answer) → Answers rule b r → r ≡ told rule b
   unfolding told
-  answered rule r meets = rw (eq-eqb (length b) 512 len, held) (meets (gear_of b) holds (is_fit b len (all_bytes b fits) held))
+  answered rule r meets = rw (eq-eqb (length b) 512 len, held) (meets (gear_of b) holds (is_fit b held))

@@ -1,31 +1,39 @@
 -- The staged colour taken into a setting of the slot: for power-on, for system failure, or of a scene.
-use Prim.Native.Nat.{ℕ, ◌+◌, ◌*◌, ◌<◌}
+use Prim.Native.Nat.{ℕ, ◌+◌, ◌*◌, ◌<◌, ◌≤◌}
 use mathlib.Core.Path.{◌≡◌, refl, ap, subst, ◌∙◌}
 use mathlib.Core.Bool.{false, true}
 use mathlib.Core.List.{List}
+use lib.Dec.{eqb}
 use lib.ListN.{drop, get_or, length, set}
 use lib.Seq.{get_or-set_same, set-set}
+use borrow.Author.Tests.{eq-eqb, eqb-true, le-leb, lt-leb}
 use native.Mathlib.Omega.{arith}
 use Rattle.colour.specs.declared.record.Colour.{Colour}
 use Rattle.colour.specs.declared.setting.ColourSetting.{ColourSetting}
 use Rattle.colour.specs.declared.tint.ColorMode.{ColorMode}
 use Rattle.colour.specs.declared.tint.ColorMode.TheVariants.{None, Cct, Xy, Rgb}
 use Rattle.colour.specs.declared.tint.Tint.{Tint}
-use Rattle.colour.specs.Staging.{with_pending}
-use Rattle.colour.specs.Tint.{captured, colour_type_byte, is_lit, unstaged}
+use Rattle.colour.specs.Setting.{mask}
+use Rattle.colour.specs.Staging.{take_staged_colour, with_pending}
+use Rattle.colour.specs.Tint.{captured, colour_type_byte, is_lit, mode_of, unstaged}
 use Rattle.engine.proofs.Blocks.{staged_mode}
 use Rattle.engine.proofs.Scenes.{colour_held, level_held}
-use Rattle.engine.specs.Colours.{taken}
+use Rattle.engine.specs.Colours.{level_stored, nothing_staged, taken}
 use Rattle.gear.specs.declared.record.Gear.{Gear}
 use Rattle.gear.specs.declared.settings.LevelSetting.{LevelSetting}
 use Rattle.gear.specs.Parts.{with_scenes, with_settings}
-use Rattle.gear.specs.Scene.{nowhere}
-use Rattle.gear.specs.Settings.{level_setting, with_failure, with_on}
+use Rattle.gear.specs.Scene.{nowhere, scene_at, stored}
+use Rattle.gear.specs.Settings.{level_setting, store_level_setting, with_failure, with_on}
+use Rattle.gear.specs.Write.{remove_scene, set_power_on_level, set_scene, set_system_failure_level}
+use Rattle.numbers.proofs.Logic.{by_cases}
 use Rattle.slot.proofs.Read.{part}
 use Rattle.slot.specs.Calls.{colour_put}
 use Rattle.slot.specs.Held.{Holds}
 use Rattle.slot.specs.Image.{image_of}
-use Rattle.slot.specs.Record.{at, colour_in, gear_of, mode_of, tint_of}
+use Rattle.slot.specs.Record.{at, colour_in, gear_of, tint_of}
+
+other : (n m : ℕ) → eqb n m ≡ false → n ≡ m → ⊥
+other n m e k = let t : eqb n m ≡ true = eq-eqb n m k in cc
 
 lit_unless : (m : ColorMode) → (colour_type_byte m ≡ 0xFF → ⊥) → is_lit m ≡ true
 lit_unless None h = absurd (h refl)
@@ -103,6 +111,19 @@ module _ (b : List ℕ) (g : Gear) (h : Holds b g) (v : ℕ) where
   failure_stored =
       failure_taken (set b 154 v) (with_settings g (with_failure g.settings (level_setting v g.settings.failure.colour)) g.colour) failure_level
 
+  -- both, by whether a colour is staged
+  pub on_put : Holds (level_stored b 125 v) (set_power_on_level g v)
+  unfolding set_power_on_level store_level_setting take_staged_colour
+  on_put =
+      by_cases (eqb (at 110 b) 0xFF) (λ e. rw (e, staged_none b g h (eqb-true (at 110 b) 0xFF e)) on_level)
+      (λ e. rw (e, staged_lit b g h (other (at 110 b) 0xFF e)) on_stored)
+
+  pub failure_put : Holds (level_stored b 140 v) (set_system_failure_level g v)
+  unfolding set_system_failure_level store_level_setting take_staged_colour
+  failure_put =
+      by_cases (eqb (at 110 b) 0xFF) (λ e. rw (e, staged_none b g h (eqb-true (at 110 b) 0xFF e)) failure_level)
+      (λ e. rw (e, staged_lit b g h (other (at 110 b) 0xFF e)) failure_stored)
+
   module _ (s : ℕ) (low : s < 16) where
     within : s < length g.scenes
     within = omega (arith, h.1.4.0)
@@ -137,3 +158,33 @@ module _ (b : List ℕ) (g : Gear) (h : Holds b g) (v : ℕ) where
     scene_put c six =
         same_scenes (colour_put (set b (155 + 15 * s + 14) v) (155 + 15 * s) c) _ _ _ (twice c)
         (colour_held (set b (155 + 15 * s + 14) v) (with_scenes g (set g.scenes s new) g.colour) stored_level s low c six)
+
+    pub scene_level_put : Holds (level_stored b (155 + 15 * s) v) (set_scene g s v)
+    unfolding set_scene store_level_setting take_staged_colour scene_at stored
+    scene_level_put =
+        by_cases (eqb (at 110 b) 0xFF)
+        (λ e. rw (e, staged_none b g h (eqb-true (at 110 b) 0xFF e), lt-leb 16 s low) (level_held b g h s low v))
+        (λ e. rw (e, staged_lit b g h (other (at 110 b) 0xFF e), lt-leb 16 s low) scene_stored)
+
+-- ## There is no seventeenth scene
+
+module _ (b : List ℕ) (g : Gear) (h : Holds b g) (v s : ℕ) (high : 16 ≤ s) where
+  pub scene_passed : at 110 b ≡ 0xFF → Holds b (set_scene g s v)
+  unfolding set_scene store_level_setting take_staged_colour scene_at stored
+  scene_passed none = rw (staged_none b g h none, le-leb 16 s high) h
+
+  pub scene_unstaged : (at 110 b ≡ 0xFF → ⊥) → Holds (nothing_staged b) (set_scene g s v)
+  unfolding image_of set_scene store_level_setting take_staged_colour scene_at stored
+  scene_unstaged lit = rw (staged_lit b g h lit, le-leb 16 s high, h.0) (refl, h.1)
+
+-- ## An entry without a level and without a colour
+
+pub scene_removed :
+    (b : List ℕ) (g : Gear) (s : ℕ) → Holds b g → s < 16 →
+    Holds (colour_put (set b (155 + 15 * s + 14) 255) (155 + 15 * s) mask) (remove_scene g s)
+unfolding remove_scene stored
+scene_removed b g s h low = rw (lt-leb 16 s low) (scene_put b g h 255 s low mask refl)
+
+pub none_removed : (b : List ℕ) (g : Gear) (s : ℕ) → Holds b g → 16 ≤ s → Holds b (remove_scene g s)
+unfolding remove_scene stored
+none_removed b g s h high = rw (le-leb 16 s high) h

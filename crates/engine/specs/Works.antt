@@ -1,14 +1,16 @@
 -- What a call on a slot does of any record that its bytes hold, fit or not: the record that it leaves, and what it answers.
-use Rattle.std.specs.Prelude.{ℕ, ◌≡◌, List, None}
+use Rattle.std.specs.Prelude.{ℕ, ◌≡◌, List, MatchResult, None, Result, Err, Ok}
 use Rattle.bank.specs.Memory.{write_memory_location}
 use Rattle.calls.specs.Pairing.{is_open}
 use Rattle.engine.specs.Served.{Served, told}
-use Rattle.gear.specs.Answer.{Answer, flag, location_answer}
+use Rattle.gear.specs.Answer.{Answer, done, flag, location_answer}
 use Rattle.gear.specs.declared.answer.Outcome.{Outcome}
+use Rattle.gear.specs.declared.answer.Refusal.{Refusal}
 use Rattle.gear.specs.declared.record.Gear.{Gear}
 use Rattle.gear.specs.Marks.{with_pair, with_walk}
 use Rattle.gear.specs.Parts.{with_banks, with_marks}
 use Rattle.gear.specs.Serve.{serve, tell}
+use Rattle.slot.specs.Calls.{tested}
 use Rattle.slot.specs.Held.{Does, Holds, Tells}
 use Rattle.slot.specs.Record.{gear_of}
 
@@ -18,10 +20,19 @@ pub record Works (rule : Gear → Outcome) (b b' : List ℕ) (r : Answer) : Type
 
 -- ## A call on a lent slot, by what it does on the bytes of a slot
 
+-- it is made on the image of a fit record; where it is refused, it is not, and nothing is written
+abbrev pub Ran : {A : Type 0} → (List ℕ → A → List ℕ → Type 0) → List ℕ → List ℕ → Result A Refusal → Type 0
+Ran call b b' r = MatchResult r (λ a. (Ok b ≡ tested b) × call b a b') (λ refusal. (Err refusal ≡ tested b) × (b' ≡ b))
+
 -- it is served by every rule whose work it does there
 abbrev pub ServedBy : (List ℕ → Answer → List ℕ → Type 0) → List ℕ → List ℕ → Answer → Type 0
 ServedBy call b b' r =
     (rule : Gear → Outcome) → ((a : Answer) (l : List ℕ) → call b a l → Works rule b l a) → Served (λ g. serve g (rule g)) b b' r
+
+-- one that has nothing to say, by every rule that leaves what it leaves there
+abbrev pub ChangedBy : (List ℕ → List ℕ → Type 0) → List ℕ → List ℕ → Answer → Type 0
+ChangedBy call b b' r =
+    (rule : Gear → Gear) → ((l : List ℕ) → call b l → Does rule b l) → Served (λ g. serve g (done (rule g))) b b' r
 
 -- one that changes nothing is told by every rule that answers as it does
 abbrev pub ToldBy : (List ℕ → Answer → Type 0) → List ℕ → Answer → Type 0

@@ -1,5 +1,4 @@
-// Activating the staged colour of a slot (part 209, 9.12.5). The active colour is at 83, the staged one at 97: x, y, Tc, six levels,
-// control and type.
+// Activating the staged colour of a slot (part 209, 9.12.5). Of the parts of a colour x, y, Tc and the six levels stand side by side.
 ghost use Rattle.colour.specs.Activation.{activate, arc_power};
 ghost use Rattle.colour.specs.declared.tint.ColorMode.TheVariants.{Cct, Rgb, Xy};
 ghost use Rattle.engine.specs.Colours.{Activates};
@@ -7,21 +6,23 @@ ghost use Rattle.gear.specs.Parts.{with_colour};
 ghost use Rattle.slot.specs.Held.{Does};
 
 use crate::serve::Slot;
+use crate::staging::unstage;
 use crate::stores::put_word;
 use colour::activation::{chosen, unlinked};
 use colour::setting::ColourSetting;
-use slot::bytes::{flag_byte, word};
+use colour::tint::ColorMode;
+use slot::bytes::word;
 use slot::parts::limits_of;
+use slot::places::{ACTIVE, CHANNEL_LEVELS, CONTROL, FEATURES, KIND, OUTSIDE, STAGED, TC};
 
 // Coordinates: they unlink the channels.
 fn activate_xy(slot: &mut Slot)
     ensures { Activates Xy slot.old slot.new }
 {
-    slot.copy_within(97..101, 83);
-    slot[95] = unlinked(slot[95]);
-    slot[96] = ColourSetting::XY;
-    slot[109] = ColourSetting::CONTROL_MASK;
-    slot[110] = ColourSetting::MASK;
+    slot.copy_within(STAGED..STAGED + TC, ACTIVE);
+    slot[ACTIVE + CONTROL] = unlinked(slot[ACTIVE + CONTROL]);
+    slot[ACTIVE + KIND] = ColourSetting::XY;
+    unstage(slot);
 }
 
 // A temperature, held within the limits as they are now and marked where that moved it.
@@ -29,36 +30,39 @@ fn activate_tc(slot: &mut Slot)
     ensures { Activates Cct slot.old slot.new }
 {
     let limits = limits_of(slot);
-    let staged = word(slot, 101);
+    let staged = word(slot, STAGED + TC);
     let tc = limits.hold(staged);
-    slot[61] = flag_byte(tc != staged);
-    put_word(slot, 87, tc);
-    slot[95] = unlinked(slot[95]);
-    slot[96] = ColourSetting::TC;
-    slot[109] = ColourSetting::CONTROL_MASK;
-    slot[110] = ColourSetting::MASK;
+    slot[OUTSIDE] = u8::from(tc != staged);
+    put_word(slot, ACTIVE + TC, tc);
+    slot[ACTIVE + CONTROL] = unlinked(slot[ACTIVE + CONTROL]);
+    slot[ACTIVE + KIND] = ColourSetting::TC;
+    unstage(slot);
 }
 
 // The channels' levels, with their control unless it says 'no change'.
 fn activate_channels(slot: &mut Slot)
     ensures { Activates Rgb slot.old slot.new }
 {
-    slot.copy_within(103..109, 89);
-    slot[95] = chosen(slot[95], slot[109]);
-    slot[96] = ColourSetting::RGBWAF;
-    slot[109] = ColourSetting::CONTROL_MASK;
-    slot[110] = ColourSetting::MASK;
+    slot.copy_within(
+        STAGED + CHANNEL_LEVELS..STAGED + CONTROL,
+        ACTIVE + CHANNEL_LEVELS,
+    );
+    slot[ACTIVE + CONTROL] = chosen(slot[ACTIVE + CONTROL], slot[STAGED + CONTROL]);
+    slot[ACTIVE + KIND] = ColourSetting::RGBWAF;
+    unstage(slot);
 }
 
+// Each of the three unstages by itself: `Activates`, which they promise, is the whole of activation; with one `unstage` behind the match a
+// second definition beside it would say what an arm leaves.
 #[tactic(auto, unfolding(slot::specs::Image::image_of, colour::specs::Activation::activate, colour::specs::Activation::activated, colour::specs::Activation::strays))]
 pub(crate) fn activate(slot: &mut Slot)
     ensures { Does (λ g. with_colour g (activate g.colour)) slot.old slot.new }
 {
-    match slot[110] {
-        ColourSetting::XY => activate_xy(slot),
-        ColourSetting::TC => activate_tc(slot),
-        ColourSetting::RGBWAF => activate_channels(slot),
-        _ => slot[109] = ColourSetting::CONTROL_MASK,
+    match ColorMode::from(slot[STAGED + KIND]) {
+        ColorMode::None => unstage(slot),
+        ColorMode::Xy => activate_xy(slot),
+        ColorMode::Cct => activate_tc(slot),
+        ColorMode::Rgb => activate_channels(slot),
     }
 }
 
@@ -67,7 +71,8 @@ pub(crate) fn activate(slot: &mut Slot)
 pub(crate) fn activate_by_arc(slot: &mut Slot)
     ensures { Does (λ g. with_colour g (arc_power g.colour)) slot.old slot.new }
 {
-    if slot[67] % 2 == 1 {
+    // As colour's `automatic_activation`, which takes a whole colour for this one byte.
+    if slot[FEATURES] % 2 == 1 {
         activate(slot);
     }
 }

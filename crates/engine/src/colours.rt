@@ -4,7 +4,7 @@ ghost use Rattle.calls.specs.Colours.{tc_step_call, xy_step_call, store_tc_limit
 ghost use Rattle.engine.specs.Served.{Served, told};
 
 use crate::activation::activate;
-use crate::serve::{serve, tell};
+use crate::serve::{change, tell};
 use crate::staging::{copy_report, stage};
 use crate::steps::{step_tc, step_xy, store_limit};
 use colour::activation::automatic_activation as automatic;
@@ -15,70 +15,50 @@ use colour::value::{
 };
 use gear::answer::{Answer, Reply, flag, unexplained, value_answer};
 use slot::parts::colour_of;
+use slot::places::FEATURES;
 
 pub fn tc_step(slot: &mut [u8], warmer: bool) -> Answer
     ensures { Served (λ g. tc_step_call g warmer) slot.old slot.new result }
 {
-    serve(slot, |slot| {
-        step_tc(slot, warmer);
-        Ok(Reply::Done)
-    })
+    change(slot, |slot| step_tc(slot, warmer))
 }
 
 pub fn xy_step(slot: &mut [u8], y_axis: bool, up: bool) -> Answer
     ensures { Served (λ g. xy_step_call g y_axis up) slot.old slot.new result }
 {
-    serve(slot, |slot| {
-        step_xy(slot, y_axis, up);
-        Ok(Reply::Done)
-    })
+    change(slot, |slot| step_xy(slot, y_axis, up))
 }
 
 pub fn store_tc_limit(slot: &mut [u8], value: u16, selector: u8) -> Answer
     ensures { Served (λ g. store_tc_limit_call g value selector) slot.old slot.new result }
 {
-    serve(slot, |slot| {
-        store_limit(slot, value, selector);
-        Ok(Reply::Done)
-    })
+    change(slot, |slot| store_limit(slot, value, selector))
 }
 
 // Stages a colour, whatever the gear can do.
 pub fn load_temporaries_from(slot: &mut [u8], setting: ColourSetting) -> Answer
     ensures { Served (λ g. stage_call g setting) slot.old slot.new result }
 {
-    serve(slot, |slot| {
-        stage(slot, setting);
-        Ok(Reply::Done)
-    })
+    change(slot, |slot| stage(slot, setting))
 }
 
 pub fn activate_pending_color(slot: &mut [u8]) -> Answer
     ensures { Served (λ g. activate_call g) slot.old slot.new result }
 {
-    serve(slot, |slot| {
-        activate(slot);
-        Ok(Reply::Done)
-    })
+    change(slot, activate)
 }
 
 pub fn copy_report_to_temporary(slot: &mut [u8]) -> Answer
     ensures { Served (λ g. copy_report_call g) slot.old slot.new result }
 {
-    serve(slot, |slot| {
-        copy_report(slot);
-        Ok(Reply::Done)
-    })
+    change(slot, copy_report)
 }
 
 // The whole byte is stored; only bit 0 has an effect.
 pub fn set_gear_features(slot: &mut [u8], features: u8) -> Answer
     ensures { Served (λ g. set_features_call g features) slot.old slot.new result }
 {
-    serve(slot, |slot| {
-        slot[67] = features;
-        Ok(Reply::Done)
-    })
+    change(slot, |slot| slot[FEATURES] = features)
 }
 
 pub fn color_value(slot: &[u8], id: u8) -> Answer
@@ -90,19 +70,13 @@ pub fn color_value(slot: &[u8], id: u8) -> Answer
 pub fn dt8_colour_status(slot: &[u8]) -> Answer
     ensures { result ≡ told (λ g. colour_status_call g) slot.now }
 {
-    tell(
-        slot,
-        |slot| Ok(Reply::Value(status_of(colour_of(slot)) as u16)),
-    )
+    tell(slot, |slot| Ok(Reply::from(status_of(colour_of(slot)))))
 }
 
 pub fn dt8_features(slot: &[u8]) -> Answer
     ensures { result ≡ told (λ g. features_call g) slot.now }
 {
-    tell(
-        slot,
-        |slot| Ok(Reply::Value(features_of(colour_of(slot)) as u16)),
-    )
+    tell(slot, |slot| Ok(Reply::from(features_of(colour_of(slot)))))
 }
 
 // Part 209's query 251, which a gear without channels does not answer.
@@ -118,7 +92,7 @@ pub fn rgbwaf_control_byte(slot: &[u8]) -> Answer
 pub fn gear_features_byte(slot: &[u8]) -> Answer
     ensures { result ≡ told (λ g. feature_byte_call g) slot.now }
 {
-    tell(slot, |slot| Ok(Reply::Value(slot[67] as u16)))
+    tell(slot, |slot| Ok(Reply::from(slot[FEATURES])))
 }
 
 pub fn automatic_activation(slot: &[u8]) -> Answer

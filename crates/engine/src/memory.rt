@@ -1,4 +1,6 @@
-// Memory locations of a slot (part 102, 9.10), each in its place among the bytes.
+// Memory locations of a slot (part 102, 9.10), each in its place among the bytes. bank's functions, of the same rules, take both banks by
+// value: to call them, 46 bytes would be copied out of the slot for one byte, and for a store written back. Bank and offset are apart, as
+// the public calls and bank's rules have them: a struct would be made in each call, and taken apart in each function.
 ghost use Rattle.std.specs.Prelude.{◌≡◌};
 ghost use Rattle.bank.specs.Memory.{advances_dtr0_past, identity_location, lacks_indicator_byte, memory_location, profile_location, writable};
 ghost use Rattle.bank.specs.Setters.{clear_identification_number, set_bank1_location};
@@ -9,35 +11,33 @@ ghost use Rattle.gear.specs.Answer.{location_answer};
 ghost use Rattle.gear.specs.Parts.{with_banks};
 ghost use Rattle.slot.specs.Held.{Does, Tells};
 
-use crate::serve::{Slot, serve, tell};
+use crate::serve::{Slot, change, serve, tell};
 use bank::memory::{
     IDENTITY_LEN, INDICATOR_BYTE, LOCK_BYTE, MEMORY_BANK_IDENTITY, MEMORY_BANK_PROFILE,
     PROFILE_LAST, PROFILE_LEN, UNLOCKED, implements_bank as implements, lacks_indicator_byte,
 };
 use gear::answer::{Answer, Reply, flag as yes_or_no, location_answer};
 use slot::bytes::flag;
+use slot::places::{BARE, FAULT_UNSTORED, HOLDS, IDENTITY, PROFILE};
 
-// Where each bank begins.
-const IDENTITY: usize = 395;
+// In bank 0 (part 102, table 9): the identification number, how many logical units the gear has, and which of them it is.
+const NUMBER: usize = IDENTITY + 11;
 
-const PROFILE: usize = 424;
+const NUMBER_LEN: usize = 8;
+
+const UNITS: usize = IDENTITY + 25;
+
+const UNIT_INDEX: usize = IDENTITY + 26;
 
 // Bank 0 ends at the last offset that it names itself, and offset 1 is reserved (part 102, table 9).
 #[tactic(auto, using(slot::proofs::Indexed::identity_read), unfolding(bank::specs::Memory::identity_location))]
 fn identity_location(slot: &Slot, offset: u8) -> Option<u8>
     ensures { Tells (λ g. identity_location g.banks.identity offset) slot.now result }
 {
-    if slot[IDENTITY] < offset {
+    if slot[IDENTITY] < offset || offset == INDICATOR_BYTE || IDENTITY_LEN <= offset {
         return None;
     }
-    if offset == INDICATOR_BYTE {
-        return None;
-    }
-    if IDENTITY_LEN <= offset {
-        return None;
-    }
-    let place = IDENTITY + offset as usize;
-    Some(slot[place])
+    Some(slot[IDENTITY + usize::from(offset)])
 }
 
 // The last offset of bank 1 is read at offset 0, whatever is stored there.
@@ -45,20 +45,17 @@ fn identity_location(slot: &Slot, offset: u8) -> Option<u8>
 fn profile_location(slot: &Slot, offset: u8) -> Option<u8>
     ensures { Tells (λ g. profile_location g.banks.profile offset) slot.now result }
 {
-    if offset == 0 {
-        return Some(PROFILE_LAST);
+    match offset {
+        0 => Some(PROFILE_LAST),
+        PROFILE_LEN.. => None,
+        _ => Some(slot[PROFILE + usize::from(offset)]),
     }
-    if PROFILE_LEN <= offset {
-        return None;
-    }
-    let place = PROFILE + offset as usize;
-    Some(slot[place])
 }
 
 fn lacks_indicator(slot: &Slot, bank: u8, offset: u8) -> bool
     ensures { Tells (λ g. lacks_indicator_byte g.unit.bare bank offset) slot.now result }
 {
-    lacks_indicator_byte(flag(slot, 58), bank, offset)
+    lacks_indicator_byte(flag(slot, BARE), bank, offset)
 }
 
 #[tactic(auto, unfolding(bank::specs::Memory::memory_location))]
@@ -68,13 +65,11 @@ fn found(slot: &Slot, bank: u8, offset: u8) -> Option<u8>
     if lacks_indicator(slot, bank, offset) {
         return None;
     }
-    if bank == MEMORY_BANK_IDENTITY {
-        return identity_location(slot, offset);
+    match bank {
+        MEMORY_BANK_IDENTITY => identity_location(slot, offset),
+        MEMORY_BANK_PROFILE => profile_location(slot, offset),
+        _ => None,
     }
-    if bank == MEMORY_BANK_PROFILE {
-        return profile_location(slot, offset);
-    }
-    None
 }
 
 pub(crate) fn location(slot: &Slot, bank: u8, offset: u8) -> Answer
@@ -88,13 +83,7 @@ pub(crate) fn location(slot: &Slot, bank: u8, offset: u8) -> Answer
 pub(crate) fn advances(slot: &Slot, bank: u8, offset: u8) -> bool
     ensures { Tells (λ g. advances_dtr0_past g.banks g.unit.bare g.unit.holds bank offset) slot.now result }
 {
-    if implements(bank) {
-        if flag(slot, 57) {
-            return found(slot, bank, offset).is_some();
-        }
-        return true;
-    }
-    false
+    implements(bank) && (!flag(slot, HOLDS) || found(slot, bank, offset).is_some())
 }
 
 // Part 102, table 8: the lock byte itself is always writable, and what follows it where it says so.
@@ -102,19 +91,9 @@ pub(crate) fn advances(slot: &Slot, bank: u8, offset: u8) -> bool
 fn is_writable(slot: &Slot, bank: u8, offset: u8) -> bool
     ensures { Tells (λ g. writable g.banks bank offset) slot.now result }
 {
-    if bank == MEMORY_BANK_PROFILE {
-        if offset < LOCK_BYTE {
-            return false;
-        }
-        if PROFILE_LAST < offset {
-            return false;
-        }
-        if offset == LOCK_BYTE {
-            return true;
-        }
-        return slot[PROFILE + LOCK_BYTE as usize] == UNLOCKED;
-    }
-    false
+    bank == MEMORY_BANK_PROFILE
+        && (LOCK_BYTE..=PROFILE_LAST).contains(&offset)
+        && (offset == LOCK_BYTE || slot[PROFILE + usize::from(LOCK_BYTE)] == UNLOCKED)
 }
 
 // Offsets past the bank store nothing.
@@ -122,11 +101,9 @@ fn is_writable(slot: &Slot, bank: u8, offset: u8) -> bool
 fn store_profile(slot: &mut Slot, offset: u8, value: u8)
     ensures { Does (λ g. with_banks g (set_bank1_location g.banks offset value)) slot.old slot.new }
 {
-    if PROFILE_LEN <= offset {
-        return;
+    if offset < PROFILE_LEN {
+        slot[PROFILE + usize::from(offset)] = value;
     }
-    let place = PROFILE + offset as usize;
-    slot[place] = value;
 }
 
 // A fault can keep the value from being stored: the write is answered all the same. Write enable is not asked for.
@@ -134,14 +111,13 @@ fn store_profile(slot: &mut Slot, offset: u8, value: u8)
 pub(crate) fn write_location(slot: &mut Slot, bank: u8, offset: u8, value: u8) -> Answer
     ensures { Works (λ g. write_location g bank offset value) slot.old slot.new result }
 {
-    if is_writable(slot, bank, offset) {
-        if flag(slot, 65) {
-            return Ok(Reply::Value(value as u16));
-        }
-        store_profile(slot, offset, value);
-        return Ok(Reply::Value(value as u16));
+    if !is_writable(slot, bank, offset) {
+        return Ok(Reply::Nothing);
     }
-    Ok(Reply::Nothing)
+    if !flag(slot, FAULT_UNSTORED) {
+        store_profile(slot, offset, value);
+    }
+    Ok(Reply::from(value))
 }
 
 pub fn memory_location(slot: &[u8], bank: u8, offset: u8) -> Answer
@@ -171,54 +147,41 @@ pub fn implements_bank(slot: &[u8], bank: u8) -> Answer
 pub fn set_bank1_lock_byte(slot: &mut [u8], value: u8) -> Answer
     ensures { Served (λ g. set_lock_call g value) slot.old slot.new result }
 {
-    serve(slot, |slot| {
-        store_profile(slot, LOCK_BYTE, value);
-        Ok(Reply::Done)
-    })
+    change(slot, |slot| store_profile(slot, LOCK_BYTE, value))
 }
 
 // Offsets past the bank do nothing; at offset 0 it stores a byte that no read shows.
 pub fn set_bank1_location(slot: &mut [u8], offset: u8, value: u8) -> Answer
     ensures { Served (λ g. set_location_call g offset value) slot.old slot.new result }
 {
-    serve(slot, |slot| {
-        store_profile(slot, offset, value);
-        Ok(Reply::Done)
-    })
+    change(slot, |slot| store_profile(slot, offset, value))
 }
 
 // How many logical units the gear has, and which of them it is (part 102, table 9).
 pub fn set_logical_gear_unit(slot: &mut [u8], units: u8, index: u8) -> Answer
     ensures { Served (λ g. set_unit_call g units index) slot.old slot.new result }
 {
-    serve(slot, |slot| {
-        slot[IDENTITY + 25] = units;
-        slot[IDENTITY + 26] = index;
-        Ok(Reply::Done)
+    change(slot, |slot| {
+        slot[UNITS] = units;
+        slot[UNIT_INDEX] = index;
     })
 }
 
 pub fn set_bank0_last_offset(slot: &mut [u8], last: u8) -> Answer
     ensures { Served (λ g. set_last_call g last) slot.old slot.new result }
 {
-    serve(slot, |slot| {
-        slot[IDENTITY] = last;
-        Ok(Reply::Done)
-    })
+    change(slot, |slot| slot[IDENTITY] = last)
 }
 
 // The identification number (part 102, table 9) becomes all masks.
 fn clear_number(slot: &mut Slot)
     ensures { Does (λ g. with_banks g (clear_identification_number g.banks)) slot.old slot.new }
 {
-    slot[IDENTITY + 11..IDENTITY + 19].fill(255);
+    slot[NUMBER..NUMBER + NUMBER_LEN].fill(0xFF);
 }
 
 pub fn clear_identification_number(slot: &mut [u8]) -> Answer
     ensures { Served clear_number_call slot.old slot.new result }
 {
-    serve(slot, |slot| {
-        clear_number(slot);
-        Ok(Reply::Done)
-    })
+    change(slot, clear_number)
 }

@@ -1,6 +1,6 @@
 // Send-twice pairing on a slot (part 101, 9.3): a frame waits for its second copy.
-ghost use Rattle.std.specs.Prelude.{◌≡◌, None};
-ghost use Rattle.calls.specs.Pairing.{hear, hear_call, hear_elsewhere_call, holds_call, waiting};
+ghost use Rattle.std.specs.Prelude.{◌≡◌};
+ghost use Rattle.calls.specs.Pairing.{hear, hear_call, hear_elsewhere_call, holds_call};
 ghost use Rattle.engine.specs.Served.{Served, told};
 ghost use Rattle.engine.specs.Works.{Works, hear_elsewhere};
 ghost use Rattle.gear.specs.Marks.{with_pair};
@@ -11,36 +11,23 @@ use crate::serve::{Slot, serve, tell};
 use crate::stores::put_word;
 use calls::pairing::heard_answer;
 use gear::answer::{Answer, Reply};
-use slot::bytes::{flag, word};
-use slot::parts::WALK_OFF;
+use slot::parts::{WALK_OFF, marks_of};
+use slot::places::{FRAME, PAIR, WALK};
 
 // The frame that waits.
 fn pair(slot: &[u8]) -> Option<u16>
     ensures { Tells (λ g. g.marks.pair) slot.now result }
 {
-    flag(slot, 55).then_some(word(slot, 73))
+    marks_of(slot).pair
 }
 
-// A closed pair has frame 0.
+// The frame that waits from now on, if any; where none does, the slot holds frame 0.
 #[tactic(auto, unfolding(slot::specs::Image::image_of))]
-fn close(slot: &mut Slot)
-    ensures { Does (λ g. with_marks g (with_pair g.marks None)) slot.old slot.new }
+fn put_pair(slot: &mut Slot, pair: Option<u16>)
+    ensures { Does (λ g. with_marks g (with_pair g.marks pair)) slot.old slot.new }
 {
-    slot[55] = 0;
-    put_word(slot, 73, 0);
-}
-
-// What waits after a frame that completed no pair.
-#[tactic(auto, unfolding(slot::specs::Image::image_of, calls::specs::Pairing::waiting))]
-fn put_waiting(slot: &mut Slot, frame: u16, repeats: bool)
-    ensures { Does (λ g. with_marks g (with_pair g.marks (waiting frame repeats))) slot.old slot.new }
-{
-    if repeats {
-        slot[55] = 1;
-        put_word(slot, 73, frame);
-        return;
-    }
-    close(slot)
+    slot[PAIR] = u8::from(pair.is_some());
+    put_word(slot, FRAME, pair.unwrap_or(0));
 }
 
 #[tactic(auto, unfolding(calls::specs::Pairing::hear))]
@@ -49,11 +36,11 @@ pub(crate) fn heard(slot: &mut Slot, frame: u16, repeats: bool) -> Answer
 {
     let waiting = pair(slot);
     if waiting == Some(frame) {
-        close(slot);
+        put_pair(slot, None);
         return Ok(Reply::Value(3));
     }
     let answer = heard_answer(repeats, waiting.is_some());
-    put_waiting(slot, frame, repeats);
+    put_pair(slot, repeats.then_some(frame));
     answer
 }
 
@@ -61,8 +48,8 @@ pub(crate) fn heard_elsewhere(slot: &mut Slot) -> Answer
     ensures { Works hear_elsewhere slot.old slot.new result }
 {
     let answer = gear::answer::flag(pair(slot).is_some());
-    slot[5] = WALK_OFF;
-    close(slot);
+    slot[WALK] = WALK_OFF;
+    put_pair(slot, None);
     answer
 }
 
@@ -83,5 +70,5 @@ pub fn holds(slot: &[u8], frame: u16) -> Answer
 pub fn hear_elsewhere(slot: &mut [u8]) -> Answer
     ensures { Served hear_elsewhere_call slot.old slot.new result }
 {
-    serve(slot, |slot| heard_elsewhere(slot))
+    serve(slot, heard_elsewhere)
 }

@@ -14,90 +14,91 @@ ghost use Rattle.slot.specs.Held.{Does, Tells};
 
 use crate::levels::put_levels;
 use crate::serve::Slot;
+use crate::stores::put_setting;
 use bank::build::Banks;
-use colour::record::Capabilities;
+use colour::record::Colour;
 use colour::setting::ColourSetting;
+use gear::settings::LevelSetting;
 use level::levels::Levels;
-use slot::bytes::flag;
-use slot::image::put_colour_at;
-use slot::parts::{WALK_OFF, unit_of};
+use slot::parts::{WALK_OFF, colour_of, unit_of};
+use slot::places::{
+    ADJUSTABLE, CONTROL, COOLEST, CURVE, CYCLED, EXTENDED_FADE, FADE_RATE, FADE_TIME, FAILURE,
+    FEATURES, FRAME, GROUPS, IDENTITY, LAMP_FAILURE, LAMP_STARTING, MINIMUM, ON, PHYSICAL_COOLEST,
+    PROFILE, RESET_STATE, SCENES, SPARE, STAGED, WALK,
+};
 
 #[tactic(auto, unfolding(slot::specs::Image::image_of))]
 fn reset_levels(slot: &mut Slot)
     ensures { Does (λ g. with_light g (fresh g.unit.minimum) g.marks g.colour) slot.old slot.new }
 {
-    let minimum = slot[4];
+    let minimum = slot[MINIMUM];
     put_levels(slot, Levels::fresh(minimum));
 }
 
 fn reset_marks(slot: &mut Slot)
     ensures { Does (λ g. with_marks g reset_marks) slot.old slot.new }
 {
-    slot[5] = WALK_OFF;
-    slot[49] = 1;
-    slot[50..56].fill(0);
-    slot[73..75].fill(0);
+    slot[WALK] = WALK_OFF;
+    slot[RESET_STATE] = 1;
+    slot[CYCLED..ADJUSTABLE].fill(0);
+    slot[FRAME..FRAME + 2].fill(0);
 }
 
 #[tactic(auto, unfolding(slot::specs::Image::image_of))]
 fn reset_lamp(slot: &mut Slot)
     ensures { Does (λ g. with_condition g (reset_condition g.condition)) slot.old slot.new }
 {
-    slot[63] = 0;
-    slot[64] = 0;
+    slot[LAMP_FAILURE] = 0;
+    slot[LAMP_STARTING] = 0;
 }
 
 // The stored limits become the physical ones; nothing is staged, and nothing reported.
 fn reset_colour(slot: &mut Slot)
     ensures { Does (λ g. with_colour g (reset g.colour)) slot.old slot.new }
 {
-    slot.copy_within(79..83, 75);
-    slot[67] = 1;
-    slot[97..109].fill(0);
-    slot[109..125].fill(255);
+    slot.copy_within(PHYSICAL_COOLEST..PHYSICAL_COOLEST + 4, COOLEST);
+    slot[FEATURES] = Colour::POWER_UP_FEATURES;
+    slot[STAGED..STAGED + CONTROL].fill(0);
+    slot[STAGED + CONTROL..ON].fill(ColourSetting::MASK);
 }
 
 // The colour that a gear leaves the factory with.
 fn factory_colour(slot: &Slot) -> ColourSetting
     ensures { Tells (λ g. factory (is_type g.unit 8) g.colour.can) slot.now result }
 {
-    let can = Capabilities {
-        tc: flag(slot, 59),
-        xy: flag(slot, 60),
-        channels: slot[12],
-    };
-    ColourSetting::factory(unit_of(slot).is_dt8(), can)
+    ColourSetting::factory(unit_of(slot).is_dt8(), colour_of(slot).can)
 }
 
 // For power-on and for system failure, the highest level with that colour.
 fn reset_settings(slot: &mut Slot)
     ensures { Does (λ g. with_settings g (factory_settings g.unit g.colour.can) g.colour) slot.old slot.new }
 {
-    let colour = factory_colour(slot);
-    slot[13] = 0;
-    slot[14] = 7;
-    slot[15] = 0;
-    slot[68] = 0;
-    slot[32..48].fill(0);
-    put_colour_at(slot, 125, colour);
-    slot[139] = Levels::MAX;
-    put_colour_at(slot, 140, colour);
-    slot[154] = Levels::MAX;
+    let setting = LevelSetting {
+        colour: factory_colour(slot),
+        level: Levels::MAX,
+    };
+    slot[FADE_TIME] = 0;
+    slot[FADE_RATE] = 7;
+    slot[EXTENDED_FADE] = 0;
+    slot[CURVE] = 0;
+    slot[GROUPS..GROUPS + 16].fill(0);
+    put_setting(slot, ON, setting);
+    put_setting(slot, FAILURE, setting);
 }
 
 // Sixteen scenes without a level and without a colour.
 fn reset_scenes(slot: &mut Slot)
     ensures { Does (λ g. with_scenes g (replicate 16 unset) g.colour) slot.old slot.new }
 {
-    slot[155..395].fill(255);
+    slot[SCENES..IDENTITY].fill(ColourSetting::MASK);
 }
 
 fn reset_banks(slot: &mut Slot)
     ensures { Does (λ g. with_banks g (build g.unit.random)) slot.old slot.new }
 {
     let banks = Banks::build(unit_of(slot).random);
-    slot[395..424].copy_from_slice(&banks.identity);
-    slot[424..441].copy_from_slice(&banks.profile);
+    slot[IDENTITY..PROFILE].copy_from_slice(&banks.identity);
+    slot[PROFILE..SPARE].copy_from_slice(&banks.profile);
 }
 
 fn reset_state(slot: &mut Slot)

@@ -12,14 +12,14 @@ use crate::config::config_write;
 use crate::levels::put_levels;
 use crate::marks::{ask, enable_write, identify};
 use crate::reset::reset_gear;
-use crate::serve::{Slot, serve};
+use crate::serve::{Slot, change, serve};
 use crate::staging::stage;
 use colour::setting::ColourSetting;
 use gear::answer::{Answer, Refusal, Reply};
 use gear::command::{StandardCommand, command_of};
 use gear::parts::{keeps_identify, recalled_levels};
 use level::arc::{ArcCommand, apply_arc};
-use slot::parts::{levels_of, setting_at};
+use slot::parts::{levels_of, scene_place, setting_at};
 
 fn arc_write(slot: &mut Slot, command: ArcCommand)
     ensures { Does (λ g. arc_write g command) slot.old slot.new }
@@ -46,47 +46,29 @@ fn recall_colour(slot: &mut Slot, setting: ColourSetting)
 fn recall_scene(slot: &mut Slot, scene: u8)
     ensures { Does (λ g. recall_scene g scene) slot.old slot.new }
 {
-    if 16 <= scene {
+    if scene < 16 {
+        let entry = setting_at(slot, scene_place(scene));
+        let levels = levels_of(slot);
+        put_levels(slot, recalled_levels(levels, entry.level));
         ask(slot, false);
-        return;
+        recall_colour(slot, entry.colour);
+    } else {
+        ask(slot, false);
     }
-    let entry = setting_at(slot, 155 + 15 * scene as usize);
-    let levels = levels_of(slot);
-    put_levels(slot, recalled_levels(levels, entry.level));
-    ask(slot, false);
-    recall_colour(slot, entry.colour);
 }
 
 // A write by its command.
 #[tactic(auto, unfolding(gear::specs::Write::write, gear::specs::Write::identify, gear::specs::Write::enable_write))]
-fn write(slot: &mut Slot, command: StandardCommand, dtr0: u8) -> Answer
-    ensures { Works (λ g. write g (Some command) dtr0) slot.old slot.new result }
+fn write(slot: &mut Slot, command: StandardCommand, dtr0: u8)
+    ensures { Does (λ g. (write g (Some command) dtr0).gear) slot.old slot.new }
 {
     match command {
-        StandardCommand::Arc(arc) => {
-            arc_write(slot, arc);
-            Ok(Reply::Done)
-        }
-        StandardCommand::GoToScene(scene) => {
-            recall_scene(slot, scene);
-            Ok(Reply::Done)
-        }
-        StandardCommand::Reset => {
-            reset_gear(slot);
-            Ok(Reply::Done)
-        }
-        StandardCommand::IdentifyDevice => {
-            identify(slot);
-            Ok(Reply::Done)
-        }
-        StandardCommand::Config(config) => {
-            config_write(slot, config, dtr0);
-            Ok(Reply::Done)
-        }
-        StandardCommand::EnableWriteMemory => {
-            enable_write(slot);
-            Ok(Reply::Done)
-        }
+        StandardCommand::Arc(arc) => arc_write(slot, arc),
+        StandardCommand::GoToScene(scene) => recall_scene(slot, scene),
+        StandardCommand::Reset => reset_gear(slot),
+        StandardCommand::IdentifyDevice => identify(slot),
+        StandardCommand::Config(config) => config_write(slot, config, dtr0),
+        StandardCommand::EnableWriteMemory => enable_write(slot),
     }
 }
 
@@ -94,10 +76,9 @@ fn write(slot: &mut Slot, command: StandardCommand, dtr0: u8) -> Answer
 fn write_byte(slot: &mut Slot, byte: u8, dtr0: u8) -> Answer
     ensures { Works (λ g. write g (command_of byte) dtr0) slot.old slot.new result }
 {
-    match command_of(byte) {
-        Some(command) => write(slot, command, dtr0),
-        None => Err(Refusal::Byte),
-    }
+    let command = command_of(byte).ok_or(Refusal::Byte)?;
+    write(slot, command, dtr0);
+    Ok(Reply::Done)
 }
 
 // A write by its byte, with DTR0.
@@ -111,8 +92,8 @@ pub fn apply_standard_write(slot: &mut [u8], byte: u8, dtr0: u8) -> Answer
 pub fn direct_arc_power(slot: &mut [u8], level: u8) -> Answer
     ensures { Served (λ g. direct_arc_power g level) slot.old slot.new result }
 {
-    serve(slot, |slot| {
-        arc_write(slot, ArcCommand::DirectArcPower(level));
-        Ok(Reply::Done)
-    })
+    change(
+        slot,
+        |slot| arc_write(slot, ArcCommand::DirectArcPower(level)),
+    )
 }

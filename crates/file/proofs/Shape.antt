@@ -1,14 +1,17 @@
 -- What a well-formed file has: its length, and each field within its range.
-use Prim.Native.Nat.{ℕ, zero, suc, ◌+◌, ◌*◌, ◌≤◌}
-use mathlib.Core.Path.{◌≡◌, refl}
-use mathlib.Core.Bool.{true}
+use Prim.Native.Nat.{ℕ, zero, suc, ◌+◌, ◌*◌, ◌-◌, ◌≤◌}
+use mathlib.Core.Path.{◌≡◌, refl, sym, ap, ◌∙◌}
+use mathlib.Core.Bool.{true, false}
 use mathlib.Core.List.{List, [], ◌∷◌}
 use lib.Dec.{leb, eqb}
-use lib.ListN.{length, get_or, drop, length-drop}
+use lib.ListN.{length, get_or, take, drop, length-drop}
 use lib.Seq.{length-take-le}
 use native.Mathlib.Omega.{arith}
 use borrow.Author.Tests.{eqb-true, leb-true}
-use Rattle.file.specs.File.{Field, field, byte, word, well_formed, type_count, profile_at, step_count, end_of, short_good, layout, all_good, types_of, profile_of, steps_of}
+use Rattle.std.specs.Prelude.{Ok, Err, is_ok}
+use Rattle.file.specs.declared.Malformed.{Malformed}
+use Rattle.file.specs.File.{Field, field, byte, word, checked, well_formed, type_count, profile_at, step_count, end_of, short_good, layout, all_good, types_of, profile_of, steps_of}
+use Rattle.file.proofs.Lowest.{accepted_exactly}
 use Rattle.numbers.proofs.Logic.{both_left, both_right}
 
 pub record Shape (s : List ℕ) : Type 0 where
@@ -57,14 +60,32 @@ types_length s h =
     let known = shape s h in
     rw h (length-take-le (type_count s) (drop 1 s) (simp length-drop (omega arith)))
 
-pub profile_length : (s : List ℕ) → well_formed s ≡ true → length (profile_of s) ≡ 11
-unfolding profile_of
-profile_length s h =
-    let known = shape s h in
-    rw h (length-take-le 11 (drop (type_count s + 2) s) (simp length-drop (omega arith)))
-
 pub steps_length : (s : List ℕ) → well_formed s ≡ true → length (steps_of s) ≡ step_count s (profile_at s) * 4
 unfolding steps_of
 steps_length s h =
     let known = shape s h in
     rw h (length-take-le (step_count s (profile_at s) * 4) (drop (profile_at s + 14) s) (simp length-drop (omega arith)))
+
+-- ## What the code cuts out of an accepted file
+
+pub accepted : (s : List ℕ) → checked s ≡ Ok tt → well_formed s ≡ true
+accepted s ok = sym (accepted_exactly s) ∙ ap is_ok ok
+
+pub refused : (s : List ℕ) (m : Malformed) → checked s ≡ Err m → well_formed s ≡ false
+refused s m bad = sym (accepted_exactly s) ∙ ap is_ok bad
+
+pub types_cut : (s : List ℕ) (n : ℕ) → checked s ≡ Ok tt → n ≡ type_count s → types_of s ≡ take n (drop 1 s)
+unfolding types_of
+types_cut s n ok e = rw (accepted s ok, e) refl
+
+pub profile_cut :
+    (s : List ℕ) (n at : ℕ) → checked s ≡ Ok tt → n ≡ 11 → at ≡ type_count s + 2 → profile_of s ≡ take n (drop at s)
+unfolding profile_of
+profile_cut s n at ok e f = rw (accepted s ok, e, f) refl
+
+-- the file ends with its steps
+pub steps_cut : (s : List ℕ) (n : ℕ) → checked s ≡ Ok tt → n ≡ length s - (profile_at s + 14) → steps_of s ≡ take n (drop (profile_at s + 14) s)
+unfolding steps_of
+steps_cut s n ok e =
+    let known = shape s (accepted s ok) in
+    rw (accepted s ok) (ap (λ k. take k (drop (profile_at s + 14) s)) (omega arith))

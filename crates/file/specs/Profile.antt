@@ -42,8 +42,7 @@ profile_from codes p =
     record {
       unit = unit_from codes p;
       can = record { tc = bit 1 (byte p 4); xy = bit 2 (byte p 4); channels = byte p 5 };
-      coolest = word p 6;
-      warmest = word p 8;
+      physical = record { coolest = word p 6; warmest = word p 8 };
     }
 
 -- what the type codes and the profile's eleven bytes say; of a malformed file a profile that no call accepts

@@ -26,9 +26,9 @@ wider u e =
 pub fresh_fit : (p : Profile) → accepted p ≡ true → fitb (fresh_gear p) ≡ true
 unfolding accepted fresh_gear walk_fit
 fresh_fit p e =
-    let below = leb p.warmest 65534 in
-    let t = both_three (leb p.can.channels 6) (leb p.coolest p.warmest) (both below (unit_fit 13 p.unit)) e in
-    let most = leb-true p.warmest 65534 (both_left below (unit_fit 13 p.unit) t.2) in
+    let below = leb p.physical.warmest 65534 in
+    let t = both_three (leb p.can.channels 6) (leb p.physical.coolest p.physical.warmest) (both below (unit_fit 13 p.unit)) e in
+    let most = leb-true p.physical.warmest 65534 (both_left below (unit_fit 13 p.unit) t.2) in
     let u = wider p.unit (both_right below (unit_fit 13 p.unit) t.2) in
     let m = floor_low 16 p.unit u in
     fit
@@ -36,8 +36,8 @@ fresh_fit p e =
       unit = u;
       levels = LevelFit.fresh_fit (floor p.unit) p.unit.minimum m.0 m.1;
       colour =
-          ColourLimits.fresh_fit p.can p.coolest p.warmest (leb-true p.can.channels 6 t.0)
-          (leb-true p.coolest p.warmest t.1)
+          ColourLimits.fresh_fit p.can p.physical.coolest p.physical.warmest (leb-true p.can.channels 6 t.0)
+          (leb-true p.physical.coolest p.physical.warmest t.1)
           (omega arith);
       walk = refl;
     })

@@ -29,6 +29,9 @@ flag b = Ok (Value (pick b 1 0))
 abbrev pub done : Gear → Outcome
 done g = record { answer = Ok Done; gear = g }
 
+abbrev pub unchanged : Gear → Answer → Outcome
+unchanged g a = record { answer = a; gear = g }
+
 -- the record comes back as it was
 abbrev pub refused : Gear → Refusal → Outcome
 refused g r = record { answer = Err r; gear = g }

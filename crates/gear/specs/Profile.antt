@@ -30,7 +30,7 @@ unit_fit most u =
 -- 13 types; 0 to 6 channels; coolest ≤ warmest < 65,535
 unfoldable pub accepted : Profile → Bool
 accepted p =
-    both (leb p.can.channels 6) (both (leb p.coolest p.warmest) (both (leb p.warmest 65534) (unit_fit 13 p.unit)))
+    both (leb p.can.channels 6) (both (leb p.physical.coolest p.physical.warmest) (both (leb p.physical.warmest 65534) (unit_fit 13 p.unit)))
 
 -- a profile that is not accepted, since its physical minimum is 0
 abbrev pub no_profile : Profile
@@ -48,6 +48,5 @@ no_profile =
             minimum = 0;
           };
       can = record { tc = false; xy = false; channels = 0 };
-      coolest = 0;
-      warmest = 0;
+      physical = record { coolest = 0; warmest = 0 };
     }

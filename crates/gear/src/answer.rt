@@ -1,6 +1,7 @@
 // What a call answers: nothing to say, a value, no value, no value since the gear lacks what it needs, or a refusal with its number.
 ghost use Rattle.std.specs.Prelude.{◌≡◌};
-ghost use Rattle.gear.specs.Answer.{refusal_number, flag, refused, done, value_answer, unexplained, location_answer};
+ghost use Rattle.gear.specs.declared.answer.Reply.TheVariants.{Value};
+ghost use Rattle.gear.specs.Answer.{refusal_number, flag, refused, done, unchanged, value_answer, unexplained, location_answer};
 
 use crate::record::Gear;
 use colour::capability::Capability;
@@ -35,12 +36,20 @@ impl From<Refusal> for u8 {
 }
 
 // What a call that is served has to say.
-#[derive(Clone, Copy)]
+#[derive(Clone, Copy, PartialEq, Eq, Debug)]
 pub enum Reply {
     Done,
     Value(u16),
     Nothing,
     Incapable(Capability),
+}
+
+impl From<u8> for Reply {
+    ghost from_gives = { λ byte reply. reply ≡ Value byte };
+
+    fn from(byte: u8) -> Reply {
+        Reply::Value(u16::from(byte))
+    }
 }
 
 pub type Answer = Result<Reply, Refusal>;
@@ -57,10 +66,7 @@ pub struct Outcome {
 pub fn flag(yes: bool) -> Answer
     ensures { result ≡ flag yes }
 {
-    if yes {
-        return Ok(Reply::Value(1));
-    }
-    Ok(Reply::Value(0))
+    Ok(Reply::from(u8::from(yes)))
 }
 
 pub fn done(gear: Gear) -> Outcome
@@ -68,8 +74,15 @@ pub fn done(gear: Gear) -> Outcome
 {
     Outcome {
         answer: Ok(Reply::Done),
-        gear: gear,
+        gear,
     }
+}
+
+// What a plain read leaves: the record as it was.
+pub fn unchanged(gear: Gear, answer: Answer) -> Outcome
+    ensures { result ≡ unchanged gear answer }
+{
+    Outcome { answer, gear }
 }
 
 // A refused call hands the record back as it was.
@@ -78,7 +91,7 @@ pub fn refused(gear: Gear, refusal: Refusal) -> Outcome
 {
     Outcome {
         answer: Err(refusal),
-        gear: gear,
+        gear,
     }
 }
 
@@ -111,7 +124,7 @@ pub fn location_answer(found: Option<u8>) -> Answer
     ensures { result ≡ location_answer found }
 {
     match found {
-        Some(byte) => Ok(Reply::Value(byte as u16)),
+        Some(byte) => Ok(Reply::from(byte)),
         None => Ok(Reply::Nothing),
     }
 }

@@ -70,7 +70,7 @@ fn config_command(low: u8) -> Option<StandardCommand>
     }
 }
 
-// None where no write has the byte. It is a byte of the bus, decoded here alone.
+// None where no write has the byte: an error in its place, as TryFrom wants one, would say no more. The bus's byte is decoded here alone.
 #[tactic(auto, unfolding(crate::specs::Command::command_of))]
 pub fn command_of(byte: u8) -> Option<StandardCommand>
     ensures { result ≡ command_of byte }

@@ -1,6 +1,6 @@
 // What no bus command sets: whether the gear is enabled, its lamp, whose marks a reset clears, and the faults that a test injects.
 ghost use Rattle.std.specs.Prelude.{◌≡◌};
-ghost use Rattle.gear.specs.Condition.{fresh_condition, reset_condition};
+ghost use Rattle.gear.specs.Condition.{fresh_lamp, fresh_condition, reset_condition};
 
 #[derive(Clone, Copy)]
 pub struct Lamp {
@@ -25,16 +25,24 @@ pub struct Condition {
     pub faults: Faults,
 }
 
+impl Lamp {
+    fn fresh() -> Lamp
+        ensures { result ≡ fresh_lamp }
+    {
+        Lamp {
+            failure: false,
+            starting: false,
+        }
+    }
+}
+
 impl Condition {
     pub(crate) fn fresh() -> Condition
         ensures { result ≡ fresh_condition }
     {
         Condition {
             enabled: true,
-            lamp: Lamp {
-                failure: false,
-                starting: false,
-            },
+            lamp: Lamp::fresh(),
             faults: Faults {
                 drop: 0,
                 forced: 0,
@@ -50,10 +58,7 @@ impl Condition {
         ensures { result ≡ reset_condition self }
     {
         Condition {
-            lamp: Lamp {
-                failure: false,
-                starting: false,
-            },
+            lamp: Lamp::fresh(),
             ..self
         }
     }

@@ -12,5 +12,4 @@ pub mod record;
 pub mod scene;
 pub mod serve;
 pub mod settings;
-pub mod types;
 pub mod write;

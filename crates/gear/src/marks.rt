@@ -1,6 +1,6 @@
 // What a gear remembers of the frames that it heard, and how each kind of command changes that.
 ghost use Rattle.std.specs.Prelude.{◌≡◌};
-ghost use Rattle.gear.specs.Marks.{fresh_marks, reset_marks, heard, asked, configured, identified, enabled, with_walk, with_pair, power_up_marks, walk_fit};
+ghost use Rattle.gear.specs.Marks.{fresh_marks, reset_marks, asked, configured, identified, enabled, with_walk, with_pair, power_up_marks, walk_fit};
 
 #[derive(Clone, Copy)]
 pub struct Marks {
@@ -45,60 +45,66 @@ impl Marks {
         }
     }
 
-    // Every write ends the walk; the four marks that a write can change are given.
-    fn heard(self, reset: bool, cycled: bool, identifying: bool, writable: bool) -> Marks
-        ensures { result ≡ heard self reset cycled identifying writable }
-    {
-        Marks {
-            walk: None,
-            reset: reset,
-            cycled: cycled,
-            identifying: identifying,
-            writable: writable,
-            ..self
-        }
-    }
-
-    // A command that asks for a level ends the power-cycle mark and the identify mark, unless it keeps that one.
+    // A command that asks for a level ends the walk, the power-cycle mark and the identify mark, unless it keeps that one.
     #[tactic(auto, unfolding(crate::specs::Marks::asked))]
     pub fn asked(self, keeps: bool) -> Marks
         ensures { result ≡ asked self keeps }
     {
-        self.heard(self.reset, false, keeps && self.identifying, self.writable)
+        Marks {
+            walk: None,
+            cycled: false,
+            identifying: keeps && self.identifying,
+            ..self
+        }
     }
 
-    // A setting ends the reset state and the identify mark.
+    // A setting ends the walk, the reset state and the identify mark.
     #[tactic(auto, unfolding(crate::specs::Marks::configured))]
     pub fn configured(self) -> Marks
         ensures { result ≡ configured self }
     {
-        self.heard(false, self.cycled, false, self.writable)
+        Marks {
+            walk: None,
+            reset: false,
+            identifying: false,
+            ..self
+        }
     }
 
+    // As every write, these two end the walk.
     #[tactic(auto, unfolding(crate::specs::Marks::identified))]
     pub fn identified(self) -> Marks
         ensures { result ≡ identified self }
     {
-        self.heard(self.reset, self.cycled, true, self.writable)
+        Marks {
+            walk: None,
+            identifying: true,
+            ..self
+        }
     }
 
     #[tactic(auto, unfolding(crate::specs::Marks::enabled))]
     pub fn enabled(self) -> Marks
         ensures { result ≡ enabled self }
     {
-        self.heard(self.reset, self.cycled, false, true)
+        Marks {
+            walk: None,
+            identifying: false,
+            writable: true,
+            ..self
+        }
     }
 
     pub fn with_walk(self, walk: Option<u8>) -> Marks
         ensures { result ≡ with_walk self walk }
     {
-        Marks { walk: walk, ..self }
+        Marks { walk, ..self }
     }
 
     pub fn with_pair(self, pair: Option<u16>) -> Marks
         ensures { result ≡ with_pair self pair }
     {
-        Marks { pair: pair, ..self }
+        Marks { pair, ..self }
     }
 
     // After power-up: as fresh, but the walk and the reset state stay.

@@ -2,7 +2,7 @@
 ghost use Rattle.std.specs.Prelude.{◌≡◌};
 ghost use Rattle.gear.specs.Profile.{is_type, floor, fixed, unit_fit, no_profile, accepted};
 
-use crate::types::{COLOUR, LED, SWITCHING, has_type};
+use colour::limits::Range;
 use colour::record::Capabilities;
 
 // What a profile fixes for good.
@@ -27,9 +27,15 @@ pub struct Unit {
 pub struct Profile {
     pub unit: Unit,
     pub can: Capabilities,
-    pub coolest: u16,
-    pub warmest: u16,
+    // The physical limits of a colour temperature.
+    pub physical: Range,
 }
+
+pub const LED: u8 = 6;
+
+pub const SWITCHING: u8 = 7;
+
+pub const COLOUR: u8 = 8;
 
 // The most types of a profile, and of a record.
 pub const PROFILE_TYPES: u8 = 13;
@@ -41,9 +47,13 @@ impl Unit {
     pub fn is_type(self, code: u8) -> bool
         ensures { result ≡ is_type self code }
     {
-        has_type(self.types, self.count, code)
+        self.types
+            .iter()
+            .take(usize::from(self.count))
+            .any(|other| *other == code)
     }
 
+    // The Rust's three names for the test of a code.
     pub fn is_dt6(self) -> bool
         ensures { result ≡ is_type self 6 }
     {
@@ -85,8 +95,7 @@ impl Unit {
     {
         self.count <= most
             && self.random <= 16777215
-            && 1 <= self.minimum
-            && self.minimum <= 254
+            && (1..=254).contains(&self.minimum)
             && self.short.is_none_or(|address| address <= 63)
     }
 }
@@ -112,8 +121,10 @@ impl Profile {
                 xy: false,
                 channels: 0,
             },
-            coolest: 0,
-            warmest: 0,
+            physical: Range {
+                coolest: 0,
+                warmest: 0,
+            },
         }
     }
 
@@ -122,8 +133,7 @@ impl Profile {
         ensures { result ≡ accepted self }
     {
         self.can.channels <= 6
-            && self.coolest <= self.warmest
-            && self.warmest <= 65534
+            && (self.physical.coolest..65535).contains(&self.physical.warmest)
             && self.unit.fit(PROFILE_TYPES)
     }
 }

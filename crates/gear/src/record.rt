@@ -36,14 +36,13 @@ impl Gear {
         let Profile {
             unit,
             can,
-            coolest,
-            warmest,
+            physical,
         } = profile;
         Gear {
             unit,
             levels: Levels::fresh(unit.minimum),
             marks: Marks::fresh(),
-            colour: Colour::fresh(can, coolest, warmest),
+            colour: Colour::fresh(can, physical),
             settings: Settings::factory(unit, can),
             scenes: [LevelSetting::unset(); 16],
             condition: Condition::fresh(),
@@ -51,7 +50,8 @@ impl Gear {
         }
     }
 
-    // The gear of an accepted profile. A refusal comes with a record that no call accepts.
+    // The gear of an accepted profile. A refusal comes with a record that no call accepts: so it is an Outcome, and no Result (`PromisedNew` and
+    // `useless`, crates/demands, hold both).
     #[tactic(auto, unfolding(crate::specs::Record::new_gear))]
     pub fn new(profile: Profile) -> Outcome
         ensures { result ≡ new_gear profile }
@@ -75,19 +75,20 @@ impl Gear {
 
     // Part 102, 11.4.2 and part 209, table 8: a reset keeps the profile, enabled, the faults and the active colour; the rest is
     // that of a new gear, without the mark of a power cycle.
-    #[tactic(auto, unfolding(crate::specs::Record::reset_gear))]
+    #[tactic(auto, unfolding(crate::specs::Record::reset_gear, crate::specs::Record::fresh_gear))]
     pub fn reset_gear(unit: Unit, condition: Condition, colour: Colour) -> Gear
         ensures { result ≡ reset_gear unit condition colour }
     {
-        Gear {
+        let fresh = Gear::fresh(Profile {
             unit,
-            levels: Levels::fresh(unit.minimum),
+            can: colour.can,
+            physical: colour.limits.physical,
+        });
+        Gear {
             marks: Marks::reset(),
             colour: colour.reset(),
-            settings: Settings::factory(unit, colour.can),
-            scenes: [LevelSetting::unset(); 16],
             condition: condition.reset(),
-            banks: Banks::build(unit.random),
+            ..fresh
         }
     }
 }

@@ -19,11 +19,13 @@ pub fn serve(gear: Gear, outcome: Outcome) -> Outcome
 }
 
 // The answer of a call that changes nothing, if the record is fit.
+#[tactic(auto, unfolding(crate::specs::Serve::tell))]
 pub fn tell(gear: Gear, answer: Answer) -> Answer
     ensures { result ≡ tell gear answer }
 {
     if gear.fit() {
-        return answer;
+        answer
+    } else {
+        Err(Refusal::Unfit)
     }
-    Err(Refusal::Unfit)
 }

@@ -98,3 +98,13 @@ pub fn store_level_setting(kept: LevelSetting, level: u8, colour: Colour) -> Sto
         colour: taken.colour,
     }
 }
+
+// The same where they lie.
+pub fn store_level(kept: &mut LevelSetting, colour: &mut Colour, level: u8)
+    ensures kept { kept.new ≡ (store_level_setting kept.old level colour.old).setting }
+    ensures colour { colour.new ≡ (store_level_setting kept.old level colour.old).colour }
+{
+    let stored = store_level_setting(*kept, level, *colour);
+    *kept = stored.setting;
+    *colour = stored.colour;
+}

@@ -1,16 +1,17 @@
 // Standard writes (part 102, 11.3 and 11.4): arc power, scenes, settings, reset, identify and write enable.
 ghost use Rattle.std.specs.Prelude.{◌≡◌};
-ghost use Rattle.gear.specs.Write.{arc_write, recall_scene, set_scene, remove_scene, set_power_on_level, set_system_failure_level, set_member, config_write, identify, enable_write, write, apply_standard_write, direct_arc_power};
+ghost use Rattle.gear.specs.Write.{arc_write, recall_scene, set_scene, remove_scene, set_member, config_write, identify, enable_write, write, apply_standard_write, direct_arc_power};
 
 use crate::answer::{Outcome, Refusal, done, refused};
 use crate::command::{ConfigCommand, StandardCommand, command_of};
 use crate::parts::{extended_fade, keeps_identify, recalled_levels, set_min};
 use crate::record::Gear;
-use crate::scene::{scene_at, with_entry};
+use crate::scene::scene_at;
 use crate::serve::serve;
-use crate::settings::{LevelSetting, Settings, store_level_setting};
+use crate::settings::{LevelSetting, Settings, store_level, store_level_setting};
 use colour::activation::{arc_power_activation, recall};
 use level::arc::{ArcCommand, apply_arc};
+use numbers::entries::stored_at;
 
 #[tactic(auto, unfolding(crate::specs::Write::arc_write))]
 fn arc_write(gear: Gear, command: ArcCommand) -> Gear
@@ -39,74 +40,42 @@ fn recall_scene(gear: Gear, scene: u8) -> Gear
 }
 
 // Part 209, 9.11.4: the level with the staged colour.
-#[tactic(auto, unfolding(crate::specs::Write::set_scene))]
+#[tactic(auto, unfolding(crate::specs::Write::set_scene, crate::specs::Scene::stored))]
 fn set_scene(gear: Gear, scene: u8, level: u8) -> Gear
     ensures { result ≡ set_scene gear scene level }
 {
     let stored = store_level_setting(scene_at(gear.scenes, scene), level, gear.colour);
     Gear {
-        scenes: with_entry(gear.scenes, scene, stored.setting),
+        scenes: stored_at(gear.scenes, scene, stored.setting),
         colour: stored.colour,
         ..gear
     }
 }
 
-#[tactic(auto, unfolding(crate::specs::Write::remove_scene))]
+#[tactic(auto, unfolding(crate::specs::Write::remove_scene, crate::specs::Scene::stored))]
 fn remove_scene(gear: Gear, scene: u8) -> Gear
     ensures { result ≡ remove_scene gear scene }
 {
     Gear {
-        scenes: with_entry(gear.scenes, scene, LevelSetting::unset()),
+        scenes: stored_at(gear.scenes, scene, LevelSetting::unset()),
         ..gear
     }
 }
 
-// Part 209, 9.2.2: the power-on level with the staged colour.
-#[tactic(auto, unfolding(crate::specs::Write::set_power_on_level))]
-fn set_power_on_level(gear: Gear, level: u8) -> Gear
-    ensures { result ≡ set_power_on_level gear level }
-{
-    let stored = store_level_setting(gear.settings.on, level, gear.colour);
-    Gear {
-        settings: Settings {
-            on: stored.setting,
-            ..gear.settings
-        },
-        colour: stored.colour,
-        ..gear
-    }
-}
-
-// Part 209, 9.3.2: the system failure level with the staged colour. What it shares with the power-on level is `store_level_setting`; a
-// function over the field that differs would take it out and put it back by closures, and be no plainer.
-#[tactic(auto, unfolding(crate::specs::Write::set_system_failure_level))]
-fn set_system_failure_level(gear: Gear, level: u8) -> Gear
-    ensures { result ≡ set_system_failure_level gear level }
-{
-    let stored = store_level_setting(gear.settings.failure, level, gear.colour);
-    Gear {
-        settings: Settings {
-            failure: stored.setting,
-            ..gear.settings
-        },
-        colour: stored.colour,
-        ..gear
-    }
-}
-
+#[tactic(auto, unfolding(crate::specs::Scene::stored))]
 fn set_member(gear: Gear, group: u8, member: bool) -> Gear
     ensures { result ≡ set_member gear group member }
 {
     Gear {
         settings: Settings {
-            groups: with_entry(gear.settings.groups, group, member),
+            groups: stored_at(gear.settings.groups, group, member),
             ..gear.settings
         },
         ..gear
     }
 }
 
-#[tactic(auto, unfolding(crate::specs::Write::config_write))]
+#[tactic(auto, unfolding(crate::specs::Write::config_write, crate::specs::Write::set_power_on_level, crate::specs::Write::set_system_failure_level))]
 fn config_write(gear: Gear, command: ConfigCommand, dtr0: u8) -> Gear
     ensures { result ≡ config_write gear command dtr0 }
 {
@@ -117,8 +86,17 @@ fn config_write(gear: Gear, command: ConfigCommand, dtr0: u8) -> Gear
     match command {
         ConfigCommand::SetMaxLevel => next.levels = gear.levels.set_max_level(dtr0),
         ConfigCommand::SetMinLevel => next.levels = set_min(gear.unit, gear.levels, dtr0),
-        ConfigCommand::SetSystemFailureLevel => next = set_system_failure_level(next, dtr0),
-        ConfigCommand::SetPowerOnLevel => next = set_power_on_level(next, dtr0),
+        // Part 209, 9.2.2 and 9.3.2: each level with the staged colour.
+        ConfigCommand::SetSystemFailureLevel => store_level(
+            &mut next.settings.failure,
+            &mut next.colour,
+            dtr0,
+        ),
+        ConfigCommand::SetPowerOnLevel => store_level(
+            &mut next.settings.on,
+            &mut next.colour,
+            dtr0,
+        ),
         ConfigCommand::SetFadeTime => next.settings.fades.time = dtr0,
         ConfigCommand::SetFadeRate => next.settings.fades.rate = dtr0,
         ConfigCommand::SetExtendedFadeTime => next.settings.fades.extended = extended_fade(dtr0),
@@ -157,7 +135,7 @@ fn write(gear: Gear, command: StandardCommand, dtr0: u8) -> Outcome
     match command {
         StandardCommand::Arc(arc) => done(arc_write(gear, arc)),
         StandardCommand::GoToScene(scene) => done(recall_scene(gear, scene)),
-        StandardCommand::Reset => { done(Gear::reset_gear(gear.unit, gear.condition, gear.colour)) }
+        StandardCommand::Reset => done(Gear::reset_gear(gear.unit, gear.condition, gear.colour)),
         StandardCommand::IdentifyDevice => done(identify(gear)),
         StandardCommand::Config(config) => done(config_write(gear, config, dtr0)),
         StandardCommand::EnableWriteMemory => done(enable_write(gear)),

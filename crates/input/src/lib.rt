@@ -17,7 +17,7 @@ pub fn read_full<R: Read>(input: &mut R, buffer: &mut [u8]) -> io::Result<usize>
     ensures err { OnErr result
         ((count : ℕ) × (count ≤ length buffer.new) × Consumes (R.remaining input.old) (R.remaining input.new) (take count buffer.new)) }
 {
-    // No index: it counts what the reads gave. Of std, read_exact does not tell how much came, and read_to_end wants a Vec.
+    // No index: it counts what the reads gave. Of std, read_exact does not tell how much came; read_to_end wants a Vec (no heap).
     let mut done: usize = 0;
     while done < buffer.len() {
         let more = input.read(&mut buffer[done..])?;

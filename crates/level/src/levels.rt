@@ -1,6 +1,6 @@
 // The level, the last one that was above 0, the limits, and the mark of a level that was asked for beyond them.
 ghost use Rattle.std.specs.Prelude.{◌≡◌};
-ghost use Rattle.level.specs.Levels.{set_level, readjusts, readjust, set_min_level, set_max_level, fresh, power_up, levels_fit};
+ghost use Rattle.level.specs.Levels.{set_level, readjust, set_min_level, set_max_level, fresh, power_up, levels_fit};
 
 use numbers::clamp;
 
@@ -70,29 +70,21 @@ impl Levels {
         }
     }
 
-    // Whether new limits move the level.
-    #[tactic(auto, unfolding(crate::specs::Levels::readjusts))]
-    fn readjusts(self) -> bool
-        ensures { result ≡ readjusts self }
-    {
-        self.level != 0 && clamp(self.level, self.min, self.max) != self.level
-    }
-
     // A level above 0 is pulled into new limits, and marked where that moves it.
-    #[tactic(auto, unfolding(crate::specs::Levels::readjust))]
+    #[tactic(auto, unfolding(crate::specs::Levels::readjust, crate::specs::Levels::readjusts))]
     fn readjust_level_into_bounds(self) -> Levels
         ensures { result ≡ readjust self }
     {
-        if self.readjusts() {
-            let level = clamp(self.level, self.min, self.max);
-            return Levels {
-                level,
-                last: level,
-                error: true,
-                ..self
-            };
+        let level = clamp(self.level, self.min, self.max);
+        if self.level == 0 || level == self.level {
+            return self;
         }
-        self
+        Levels {
+            level,
+            last: level,
+            error: true,
+            ..self
+        }
     }
 
     // The lowest level, not below the floor and not above the highest.

@@ -1,4 +1,5 @@
 pub mod Clamped
 pub mod Lists
 pub mod Logic
+pub mod Made
 pub mod Table

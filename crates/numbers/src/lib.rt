@@ -1,5 +1,8 @@
-// A number held within two ends, and laws that the crates above cite.
+// A number held within two ends, one entry of an array, the bits of a byte, and laws that the crates above cite.
 #![tactic(auto)]
+
+pub mod bits;
+pub mod entries;
 
 ghost use Rattle.std.specs.Prelude.{◌≡◌};
 ghost use Rattle.std.specs.Ordering.{ord_max, ord_min};

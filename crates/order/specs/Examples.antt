@@ -23,8 +23,7 @@ profile =
             minimum = 1;
           };
       can = record { tc = true; xy = false; channels = 0 };
-      coolest = 153;
-      warmest = 400;
+      physical = record { coolest = 153; warmest = 400 };
     }
 
 abbrev pub gear : Gear

@@ -1,3 +1,5 @@
+pub mod Masks
+pub mod Octets
 pub mod Kept
 pub mod Parts
 pub mod Walking

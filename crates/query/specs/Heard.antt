@@ -1,6 +1,8 @@
 -- What a query changes: the walk through the type list, and the colour report.
-use Rattle.std.specs.Prelude.{ℕ, ◌+◌, ◌/◌, Bool, true, eqb, leb, Option, None, Some}
+use Rattle.std.specs.Prelude.{ℕ, ◌+◌, ◌/◌, ◌%◌, Bool, true, eqb, leb, Option, None, Some}
 use Rattle.query.specs.Reply.{is_query}
+use Rattle.query.specs.declared.heard.Told.{Told}
+use Rattle.query.specs.declared.heard.Told.TheVariants.{Actual, PowerOn, SystemFailure, Scene}
 use Rattle.colour.specs.declared.setting.ColourSetting.{ColourSetting}
 use Rattle.colour.specs.declared.tint.Tint.{Tint}
 use Rattle.colour.specs.Tint.{captured}
@@ -29,7 +31,13 @@ walked u m b =
     pick (eqb b 153) (with_walk m (begun u.count))
     (pick (eqb b 167) (stepped u.count m m.walk) (pick (is_query b) (with_walk m None) m))
 
--- 160 actual level, 163 power-on, 164 system failure, 176 to 191 scenes
+-- 160 actual level, 163 power-on, 164 system failure, 176 to 191 scenes, the low half of the byte the scene's number
+unfoldable pub level_told : ℕ → Option Told
+level_told b =
+    pick (eqb b 160) (Some Actual)
+    (pick (eqb b 163) (Some PowerOn) (pick (eqb b 164) (Some SystemFailure) (pick (eqb (b / 16) 11) (Some (Scene (b % 16))) None)))
+
+-- the bytes that tell a level
 unfoldable pub tells_level : ℕ → Bool
 tells_level b = pick (eqb b 160) true (pick (eqb b 163) true (pick (eqb b 164) true (eqb (b / 16) 11)))
 

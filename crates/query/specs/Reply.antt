@@ -43,10 +43,10 @@ yes b = pick b (Ok (Value 255)) (Ok Nothing)
 -- 154 physical minimum, 155 power failure, 158 operating mode, 159 light source
 unfoldable pub status_reply : Seen → ℕ → Answer
 status_reply s low =
-    pick (eqb low 0) (Ok (Value (status_byte s.unit s.levels s.marks s.lamp s.faults)))
+    pick (eqb low 0) (Ok (Value (status_byte s.unit s.levels s.marks s.condition.lamp s.condition.faults)))
     (pick (eqb low 1) (Ok (Value 255))
-    (pick (eqb low 2) (yes s.lamp.failure)
-    (pick (eqb low 3) (yes (lamp_on s.unit s.levels s.lamp s.faults))
+    (pick (eqb low 2) (yes s.condition.lamp.failure)
+    (pick (eqb low 3) (yes (lamp_on s.unit s.levels s.condition.lamp s.condition.faults))
     (pick (eqb low 4) (yes s.levels.error)
     (pick (eqb low 5) (yes s.marks.reset)
     (pick (eqb low 6) (yes (missing s.unit.short))
@@ -61,13 +61,13 @@ packed_fades time rate = time % 16 * 16 + rate % 16
 
 -- bit 0 of the status
 unfoldable pub gear_failure : Seen → Bool
-gear_failure s = eqb (status_byte s.unit s.levels s.marks s.lamp s.faults % 2) 1
+gear_failure s = eqb (status_byte s.unit s.levels s.marks s.condition.lamp s.condition.faults % 2) 1
 
 -- 160 actual level, 161 max, 162 min, 163 power-on, 164 system failure, 165 fades, 166 manufacturer mode (never), 168 extended
 -- fade, 170 gear failure
 unfoldable pub setting_reply : Seen → ℕ → Answer
 setting_reply s low =
-    pick (eqb low 0) (Ok (Value (actual_level s.unit s.levels s.faults s.active)))
+    pick (eqb low 0) (Ok (Value (actual_level s.unit s.levels s.condition.faults s.active)))
     (pick (eqb low 1) (Ok (Value s.levels.max))
     (pick (eqb low 2) (Ok (Value s.levels.min))
     (pick (eqb low 3) (Ok (Value s.on))
@@ -109,8 +109,7 @@ seen_with g level =
       fades = g.settings.fades;
       groups = g.settings.groups;
       scene = level;
-      lamp = g.condition.lamp;
-      faults = g.condition.faults;
+      condition = g.condition;
       active = g.colour.active;
     }
 

@@ -1,48 +1,64 @@
 // What the lamp does, and what part 207 says of it.
-ghost use Rattle.std.specs.Prelude.{◌≡◌};
+ghost use Rattle.std.specs.Prelude.{◌≡◌, false, eqb};
+ghost use Rattle.std.specs.Int.Bits.{bit_and};
+ghost use Rattle.numbers.specs.Numbers.{pick};
+ghost use Rattle.gear.specs.Profile.{is_type};
 ghost use Rattle.query.specs.Lamp.{thermal_shut_down, lamp_failure_from207, lamp_on, overheated, one_linked, shows_level, actual_level};
 
-use crate::bits::bit;
 use colour::tint::{ColorMode, Tint};
-use gear::condition::{Faults, Lamp};
+use gear::condition::{Condition, Faults};
 use gear::profile::Unit;
 use level::levels::Levels;
 
-// The weights of part 207's two thermal bits.
+// The bits of part 207: short circuit, open circuit, load decrease, load increase and current protector; and the two thermal ones.
+const FAILED: u8 = 31;
+
 const SHUT_DOWN: u8 = 32;
 
-const OVERLOAD: u8 = 64;
+const OVERHEATED: u8 = 32 | 64;
+
+// A LED gear has one of these faults. Of the condition the faults alone are taken: the lamp's own marks say nothing here.
+fn led_fault(unit: Unit, faults: Faults, mask: u8) -> bool
+    ensures { result ≡ pick (eqb (bit_and faults.failure mask) 0) false (is_type unit 6) }
+{
+    faults.failure & mask != 0 && unit.is_dt6()
+}
 
 // Part 207: a LED gear that shut down for heat.
-#[tactic(auto, unfolding(crate::specs::Lamp::thermal_shut_down))]
+#[tactic(auto, unfolding(crate::specs::Lamp::thermal_shut_down), using(crate::proofs::Masks::shut_down))]
 pub fn thermal_shut_down(unit: Unit, faults: Faults) -> bool
     ensures { result ≡ thermal_shut_down unit faults }
 {
-    bit(faults.failure, SHUT_DOWN) && unit.is_dt6()
+    led_fault(unit, faults, SHUT_DOWN)
 }
 
-// Part 207, 11.3.4.2: any of short circuit, open circuit, load decrease, load increase and current protector.
-#[tactic(auto, unfolding(crate::specs::Lamp::lamp_failure_from207))]
+// Part 207, 11.3.4.2: any of the first five.
+#[tactic(auto, unfolding(crate::specs::Lamp::lamp_failure_from207), using(crate::proofs::Masks::failed))]
 pub fn lamp_failure_from_207(unit: Unit, faults: Faults) -> bool
     ensures { result ≡ lamp_failure_from207 unit faults }
 {
-    faults.failure % 32 != 0 && unit.is_dt6()
+    led_fault(unit, faults, FAILED)
 }
 
-// Part 102, 9.16.4. Each of these takes the parts that it reads, and no more: so its promise says that nothing else matters.
+// Part 102, 9.16.4. Here, in `actual_level_answer` and in `status_byte` the parts come one by one: a `Seen`, a record and a slot have
+// them at different places, and a struct of them would be built for each call and read once.
 #[tactic(auto, unfolding(crate::specs::Lamp::lamp_on))]
-pub fn lamp_on(unit: Unit, levels: Levels, lamp: Lamp, faults: Faults) -> bool
-    ensures { result ≡ lamp_on unit levels lamp faults }
+pub fn lamp_on(unit: Unit, levels: Levels, condition: Condition) -> bool
+    ensures { result ≡ lamp_on unit levels condition.lamp condition.faults }
 {
-    levels.level != 0 && !lamp.starting && !lamp.failure && !thermal_shut_down(unit, faults)
+    let lamp = condition.lamp;
+    levels.level != 0
+        && !lamp.starting
+        && !lamp.failure
+        && !thermal_shut_down(unit, condition.faults)
 }
 
 // A LED gear that shut down or throttled for heat.
-#[tactic(auto, unfolding(crate::specs::Lamp::overheated))]
+#[tactic(auto, unfolding(crate::specs::Lamp::overheated), using(crate::proofs::Masks::overheated))]
 fn overheated(unit: Unit, faults: Faults) -> bool
     ensures { result ≡ overheated unit faults }
 {
-    (bit(faults.failure, SHUT_DOWN) || bit(faults.failure, OVERLOAD)) && unit.is_dt6()
+    led_fault(unit, faults, OVERHEATED)
 }
 
 // Exactly one of the six channels is linked.

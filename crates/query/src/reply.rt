@@ -1,6 +1,6 @@
 // A query: what it answers, and the record that follows.
 ghost use Rattle.std.specs.Prelude.{◌≡◌};
-ghost use Rattle.query.specs.Reply.{seen, reported, query, gear_query_reply};
+ghost use Rattle.query.specs.Reply.{reported, query, gear_query_reply};
 
 use crate::heard::{reports, shown, walked};
 use crate::told::{Seen, query_answer};
@@ -16,42 +16,19 @@ fn reported(gear: Gear, byte: u8) -> Colour
     ensures { result ≡ reported gear byte }
 {
     if reports(gear.unit, byte) {
-        let told = shown(
-            gear.colour.active,
-            gear.settings.on.colour,
-            gear.settings.failure.colour,
-            scene_at(gear.scenes, byte % 16).colour,
-            byte,
-        );
+        let scene = scene_at(gear.scenes, byte % 16).colour;
+        let told = shown(gear.colour.active, gear.settings, scene, byte);
         return load_report_from(gear.colour, told);
     }
     gear.colour
 }
 
-fn seen(gear: Gear, byte: u8) -> Seen
-    ensures { result ≡ seen gear byte }
-{
-    let groups = gear.settings.groups;
-    Seen {
-        unit: gear.unit,
-        levels: gear.levels,
-        marks: gear.marks,
-        on: gear.settings.on.level,
-        failure: gear.settings.failure.level,
-        fades: gear.settings.fades,
-        groups,
-        scene: scene_at(gear.scenes, byte % 16).level,
-        lamp: gear.condition.lamp,
-        faults: gear.condition.faults,
-        active: gear.colour.active,
-    }
-}
-
 fn query(gear: Gear, byte: u8) -> Outcome
     ensures { result ≡ query gear byte }
 {
+    let scene = scene_at(gear.scenes, byte % 16).level;
     Outcome {
-        answer: query_answer(seen(gear, byte), byte),
+        answer: query_answer(Seen::of(&gear, scene), byte),
         gear: Gear {
             marks: walked(gear.unit, gear.marks, byte),
             colour: reported(gear, byte),

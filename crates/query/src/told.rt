@@ -1,7 +1,8 @@
 // What a query answers (document 01, 'Command bytes').
 ghost use Rattle.std.specs.Prelude.{◌≡◌, Ok};
 ghost use Rattle.gear.specs.declared.answer.Reply.TheVariants.{Value};
-ghost use Rattle.query.specs.Reply.{is_status_query, is_setting_query, is_query, yes, status_reply, packed_fades, gear_failure, setting_reply, identity_reply, reply, told};
+ghost use Rattle.query.specs.Reply.{is_status_query, is_setting_query, is_query, yes, status_reply, packed_fades, gear_failure, setting_reply, identity_reply, reply, seen_with, told};
+ghost use Rattle.query.specs.Status.{status_byte};
 
 use crate::bits::eight;
 use crate::lamp::{actual_level_answer, lamp_on};
@@ -9,9 +10,10 @@ use crate::status::status_byte;
 use crate::walk::{next_type_answer, type_answer};
 use colour::tint::Tint;
 use gear::answer::{Answer, Refusal, Reply};
-use gear::condition::{Faults, Lamp};
+use gear::condition::Condition;
 use gear::marks::Marks;
 use gear::profile::Unit;
+use gear::record::Gear;
 use gear::settings::Fades;
 use level::levels::Levels;
 
@@ -28,11 +30,40 @@ pub struct Seen {
     pub groups: [bool; 16],
     // The level of the scene that the low half of the byte names.
     pub scene: u8,
-    pub lamp: Lamp,
-    pub faults: Faults,
+    pub condition: Condition,
     pub active: Tint,
 }
 
+impl Seen {
+    // Of a record, with the level of one scene.
+    pub fn of(gear: &Gear, scene: u8) -> Seen
+        ensures { result ≡ seen_with gear.now scene }
+    {
+        let groups = gear.settings.groups;
+        Seen {
+            unit: gear.unit,
+            levels: gear.levels,
+            marks: gear.marks,
+            on: gear.settings.on.level,
+            failure: gear.settings.failure.level,
+            fades: gear.settings.fades,
+            groups,
+            scene,
+            condition: gear.condition,
+            active: gear.colour.active,
+        }
+    }
+
+    // The status byte.
+    fn status(self) -> u8
+        ensures { result ≡ status_byte self.unit self.levels self.marks self.condition.lamp self.condition.faults }
+    {
+        status_byte(self.unit, self.levels, self.marks, self.condition)
+    }
+}
+
+// The byte of a query stays a number, matched by its halves beside what it tells: an enum of the 29 queries would be listed, made from
+// the byte and then matched again.
 #[tactic(auto, unfolding(crate::specs::Reply::is_status_query))]
 fn is_status_query(low: u8) -> bool
     ensures { result ≡ is_status_query low }
@@ -76,7 +107,7 @@ fn yes(holds: bool) -> Answer
 fn value(byte: u8) -> Answer
     ensures { result ≡ Ok (Value byte) }
 {
-    Ok(Reply::Value(u16::from(byte)))
+    Ok(Reply::from(byte))
 }
 
 // Queries 144 to 159.
@@ -85,10 +116,10 @@ fn status_reply(seen: Seen, low: u8) -> Answer
     ensures { result ≡ status_reply seen low }
 {
     match low {
-        0 => value(status_byte(seen.unit, seen.levels, seen.marks, seen.lamp, seen.faults)),
+        0 => value(seen.status()),
         1 => Ok(Reply::Value(255)),
-        2 => yes(seen.lamp.failure),
-        3 => yes(lamp_on(seen.unit, seen.levels, seen.lamp, seen.faults)),
+        2 => yes(seen.condition.lamp.failure),
+        3 => yes(lamp_on(seen.unit, seen.levels, seen.condition)),
         4 => yes(seen.levels.error),
         5 => yes(seen.marks.reset),
         6 => yes(seen.unit.short.is_none()),
@@ -103,10 +134,10 @@ fn status_reply(seen: Seen, low: u8) -> Answer
 
 // Fade time in the high half, fade rate in the low one, whatever else is stored in them.
 #[tactic(auto, unfolding(crate::specs::Reply::packed_fades))]
-fn packed_fades(time: u8, rate: u8) -> u8
-    ensures { result ≡ packed_fades time rate }
+fn packed_fades(fades: Fades) -> u8
+    ensures { result ≡ packed_fades fades.time fades.rate }
 {
-    time % 16 * 16 + rate % 16
+    fades.time % 16 * 16 + fades.rate % 16
 }
 
 // Bit 0 of the status.
@@ -114,8 +145,7 @@ fn packed_fades(time: u8, rate: u8) -> u8
 fn gear_failure(seen: Seen) -> bool
     ensures { result ≡ gear_failure seen }
 {
-    let status = status_byte(seen.unit, seen.levels, seen.marks, seen.lamp, seen.faults);
-    status % 2 == 1
+    seen.status() % 2 == 1
 }
 
 // Queries 160 to 170. No operating mode of this gear is a manufacturer's own, so 166 is never answered.
@@ -124,12 +154,12 @@ fn setting_reply(seen: Seen, low: u8) -> Answer
     ensures { result ≡ setting_reply seen low }
 {
     match low {
-        0 => value(actual_level_answer(seen.unit, seen.levels, seen.faults, seen.active)),
+        0 => value(actual_level_answer(seen.unit, seen.levels, seen.condition.faults, seen.active)),
         1 => value(seen.levels.max),
         2 => value(seen.levels.min),
         3 => value(seen.on),
         4 => value(seen.failure),
-        5 => value(packed_fades(seen.fades.time, seen.fades.rate)),
+        5 => value(packed_fades(seen.fades)),
         8 => value(seen.fades.extended),
         10 => yes(gear_failure(seen)),
         _ => Ok(Reply::Nothing),
@@ -141,13 +171,13 @@ fn setting_reply(seen: Seen, low: u8) -> Answer
 fn identity_reply(seen: Seen, low: u8) -> Answer
     ensures { result ≡ identity_reply seen low }
 {
-    let random = seen.unit.random;
+    let [_, high, middle, lowest] = seen.unit.random.to_be_bytes();
     match low {
         0 => value(eight(seen.groups, false)),
         1 => value(eight(seen.groups, true)),
-        2 => value((random / 65536 % 256) as u8),
-        3 => value((random / 256 % 256) as u8),
-        4 => value((random % 256) as u8),
+        2 => value(high),
+        3 => value(middle),
+        4 => value(lowest),
         _ => Ok(Reply::Nothing),
     }
 }

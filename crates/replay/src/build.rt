@@ -1,46 +1,40 @@
 // Kind 0, a new gear, and the gear before the first call.
-use crate::entry::{array, byte, long, number, word};
+use crate::entry::Entry;
+use colour::limits::Range;
 use colour::record::Capabilities;
 use gear::answer::{Outcome, refused};
 use gear::profile::{Profile, Unit};
 use gear::record::Gear;
+use numbers::bits::bits;
 
-pub fn types(entry: &[u8]) -> [u8; 16] {
-    array(entry, 2)
-}
-
-// Flags: bits 0 Tc, 1 xy, 2 adjustable thresholds, 3 holds DTR0, 4 no indicator byte.
-fn unit(entry: &[u8]) -> Unit {
-    let flags = byte(entry, 23);
-    Unit {
-        short: number(entry, 18),
-        random: long(entry, 19),
-        types: types(entry),
-        count: byte(entry, 1),
-        adjustable: flags / 4 % 2 == 1,
-        holds: flags / 8 % 2 == 1,
-        bare: flags / 16 % 2 == 1,
-        minimum: byte(entry, 29),
-    }
-}
-
-fn capabilities(entry: &[u8]) -> Capabilities {
-    let flags = byte(entry, 23);
-    Capabilities {
-        tc: flags % 2 == 1,
-        xy: flags / 2 % 2 == 1,
-        channels: byte(entry, 24),
+fn profile(entry: Entry) -> Profile {
+    let [tc, xy, adjustable, holds, bare, ..] = bits(entry.byte(23));
+    Profile {
+        unit: Unit {
+            short: entry.number(18),
+            random: entry.long(19),
+            types: entry.array(2),
+            count: entry.byte(1),
+            adjustable,
+            holds,
+            bare,
+            minimum: entry.byte(29),
+        },
+        can: Capabilities {
+            tc,
+            xy,
+            channels: entry.byte(24),
+        },
+        physical: Range {
+            coolest: entry.word(25),
+            warmest: entry.word(27),
+        },
     }
 }
 
 // A refused profile leaves the record as it was.
-pub fn new_gear(gear: Gear, entry: &[u8]) -> Outcome {
-    let made = Gear::new(Profile {
-        unit: unit(entry),
-        can: capabilities(entry),
-        coolest: word(entry, 25),
-        warmest: word(entry, 27),
-    });
+pub fn new_gear(gear: Gear, entry: Entry) -> Outcome {
+    let made = Gear::new(profile(entry));
     match made.answer {
         Err(refusal) => refused(gear, refusal),
         Ok(_) => made,
@@ -65,8 +59,10 @@ pub fn first_gear() -> Gear {
             xy: false,
             channels: 0,
         },
-        coolest: 153,
-        warmest: 400,
+        physical: Range {
+            coolest: 153,
+            warmest: 400,
+        },
     })
     .gear
 }

@@ -1,14 +1,13 @@
 // Holding the answers and digests of a list against the record's own.
 use crate::build::first_gear;
-use crate::entry::{ENTRY_LEN, byte, long, word};
-use crate::form::{is_formed, is_placing};
+use crate::entry::{ENTRY_LEN, Entry};
 use crate::image::digest;
 use crate::perform::perform;
 use gear::answer::{Answer, Outcome, Reply};
 use gear::record::Gear;
 
 // Why nothing is left to compare: the input ended, or the next entry is malformed.
-#[derive(Clone, Copy)]
+#[derive(Clone, Copy, PartialEq, Eq, Debug)]
 pub enum End {
     Over,
     Malformed,
@@ -26,31 +25,35 @@ pub struct Progress {
     pub end: Option<End>,
 }
 
-fn tag(answer: Answer) -> u8 {
-    match answer {
-        Ok(Reply::Done) => 0,
-        Ok(Reply::Value(_)) => 1,
-        Ok(Reply::Nothing) => 2,
-        Err(_) => 3,
-        Ok(Reply::Incapable(_)) => 4,
-    }
+// An answer as a list tells it: the numbers of oracle/FORMAT.md, which the entry has too.
+#[derive(Clone, Copy, PartialEq, Eq)]
+struct Told {
+    tag: u8,
+    number: u16,
 }
 
-fn number(answer: Answer) -> u16 {
-    match answer {
-        Ok(Reply::Done | Reply::Nothing) => 0,
-        Ok(Reply::Value(value)) => value,
-        Err(refusal) => u16::from(u8::from(refusal)),
-        Ok(Reply::Incapable(need)) => u16::from(u8::from(need)),
+impl From<Answer> for Told {
+    fn from(answer: Answer) -> Told {
+        let (tag, number) = match answer {
+            Ok(Reply::Done) => (0, 0),
+            Ok(Reply::Value(value)) => (1, value),
+            Ok(Reply::Nothing) => (2, 0),
+            Err(refusal) => (3, u16::from(u8::from(refusal))),
+            Ok(Reply::Incapable(need)) => (4, u16::from(u8::from(need))),
+        };
+        Told { tag, number }
     }
 }
 
 // The entry's answer and digest are those of the outcome.
-fn agrees(entry: &[u8], outcome: Outcome) -> bool {
-    byte(entry, 32) == tag(outcome.answer)
-        && word(entry, 33) == number(outcome.answer)
-        && byte(entry, 35) == 0
-        && long(entry, 36) == digest(outcome.gear)
+fn agrees(entry: Entry, outcome: Outcome) -> bool {
+    let told = Told {
+        tag: entry.byte(32),
+        number: entry.word(33),
+    };
+    told == Told::from(outcome.answer)
+        && entry.byte(35) == 0
+        && entry.long(36) == digest(outcome.gear)
 }
 
 impl Progress {
@@ -65,7 +68,7 @@ impl Progress {
         }
     }
 
-    fn judge(&mut self, entry: &[u8], outcome: Outcome) {
+    fn judge(&mut self, entry: Entry, outcome: Outcome) {
         self.gear = outcome.gear;
         self.compared = self.compared.saturating_add(1);
         self.offset = self.offset.saturating_add(ENTRY_LEN as u64);
@@ -76,36 +79,28 @@ impl Progress {
     }
 
     // A list begins with kind 0.
-    fn is_begun(&self, kind: u8) -> bool {
-        0 < self.compared || kind == 0
+    fn is_begun(&self, entry: Entry) -> bool {
+        0 < self.compared || entry.kind() == 0
     }
 
-    fn compare(&mut self, entry: &[u8]) {
-        let kind = byte(entry, 0);
-        if !is_formed(entry) || !self.is_begun(kind) {
-            self.end = Some(End::Malformed);
-            return;
+    fn compare(&mut self, entry: Entry) {
+        match perform(self.gear, entry) {
+            Some(outcome) if self.is_begun(entry) => self.judge(entry, outcome),
+            _ => self.end = Some(End::Malformed),
         }
-        let outcome = perform(self.gear, entry);
-        // A placing leaves a fit record.
-        if is_placing(kind) && !outcome.gear.fit() {
-            self.end = Some(End::Malformed);
-            return;
-        }
-        self.judge(entry, outcome);
     }
 
     // Every whole entry of `list`; bytes left over are an entry cut short.
     pub fn compare_all(&mut self, list: &[u8]) {
-        for entry in list.chunks(ENTRY_LEN) {
+        let (entries, rest) = list.as_chunks::<ENTRY_LEN>();
+        for entry in entries {
             if self.end.is_some() {
                 return;
             }
-            if entry.len() < ENTRY_LEN {
-                self.end = Some(End::Malformed);
-                return;
-            }
-            self.compare(entry);
+            self.compare(Entry(entry));
+        }
+        if !rest.is_empty() {
+            self.end = self.end.or(Some(End::Malformed));
         }
     }
 }

@@ -12,7 +12,7 @@ impl Digest {
     }
 
     pub fn byte(self, b: u8) -> Digest {
-        Digest(((self.0 as u64 * 1000003 + b as u64 + 1) % 4294967291) as u32)
+        Digest(((u64::from(self.0) * 1000003 + u64::from(b) + 1) % 4294967291) as u32)
     }
 
     pub fn flag(self, yes: bool) -> Digest {

@@ -6,18 +6,18 @@ mod build;
 mod compare;
 mod digest;
 mod entry;
-mod form;
 mod image;
+mod mode;
 mod perform;
 mod place;
 
 use crate::compare::{End, Progress};
+use crate::entry::ENTRY_LEN;
 use input::read_full;
 use std::io;
 use std::io::Read;
 
-// 1,024 entries.
-const BUFFER_LEN: usize = 40960;
+const BUFFER_LEN: usize = 1024 * ENTRY_LEN;
 
 // Compares as many entries as the buffer holds. The input is over where it does not fill the buffer.
 fn turn<R: Read>(input: &mut R, progress: &mut Progress) -> io::Result<()> {
@@ -30,7 +30,7 @@ fn turn<R: Read>(input: &mut R, progress: &mut Progress) -> io::Result<()> {
     Ok(())
 }
 
-// A proved loop ends, and nothing says that an input does: so there are as many turns as no run uses up.
+// As many turns as no run uses up: nothing says that an input ends, and a `while` without an end would need Wait in HANDLES.
 fn replayed<R: Read>(input: &mut R) -> io::Result<Progress> {
     let mut progress = Progress::start();
     for _ in 0..u64::MAX {
@@ -51,7 +51,7 @@ fn main(rt: HostRuntime) -> io::Result<()> {
         Some(first) => println!(rt; "first {first}")?,
         None => println!(rt; "first -")?,
     }
-    if let Some(End::Malformed) = progress.end {
+    if progress.end == Some(End::Malformed) {
         println!(rt; "malformed at {}", progress.offset)?;
     }
     Ok(())

@@ -1,188 +1,103 @@
-// Kinds 64 to 75, which put values into a record.
-use crate::build::types;
-use crate::entry::{array, byte, flag, from, number, setting, word};
-use bank::build::Banks;
-use bank::memory::stored_at;
-use colour::record::Colour;
-use colour::tint::{ColorMode, Tint};
+// Kinds 64 to 75, which put values into a record. None for a value outside its range (oracle/FORMAT.md, 'Malformed lists').
+use crate::entry::Entry;
+use crate::mode::mode_of;
+use colour::tint::Tint;
 use gear::answer::{Outcome, done};
-use gear::marks::Marks;
-use gear::profile::Unit;
 use gear::record::Gear;
-use gear::settings::{LevelSetting, Settings};
-use level::levels::Levels;
+use gear::settings::LevelSetting;
+use numbers::entries::stored_at;
 
-fn levels(levels: Levels, entry: &[u8]) -> Levels {
-    Levels {
-        level: byte(entry, 1),
-        last: byte(entry, 2),
-        error: flag(entry, 3),
-        ..levels
-    }
+fn levels(gear: &mut Gear, entry: Entry) {
+    gear.levels.level = entry.byte(1);
+    gear.levels.last = entry.byte(2);
+    gear.levels.error = entry.flag(3);
 }
 
-fn addressing(marks: Marks, entry: &[u8]) -> Marks {
-    Marks {
-        initialise: flag(entry, 1),
-        withdrawn: flag(entry, 2),
-        ..marks
-    }
+fn addressing(gear: &mut Gear, entry: Entry) {
+    gear.marks.initialise = entry.flag(1);
+    gear.marks.withdrawn = entry.flag(2);
+    gear.settings.curve = entry.byte(3);
 }
 
-fn stored(entry: &[u8]) -> LevelSetting {
+// The colour of a scene; its level stays.
+fn scene(gear: &mut Gear, entry: Entry) -> Option<()> {
+    gear.scenes.get_mut(usize::from(entry.byte(1)))?.colour = entry.setting(2);
+    Some(())
+}
+
+fn stored(entry: Entry) -> LevelSetting {
     LevelSetting {
-        level: byte(entry, 1),
-        colour: setting(entry, 2),
-    }
-}
-
-fn mode(number: u8) -> ColorMode {
-    match number {
-        1 => ColorMode::Cct,
-        2 => ColorMode::Xy,
-        3 => ColorMode::Rgb,
-        _ => ColorMode::None,
+        level: entry.byte(1),
+        colour: entry.setting(2),
     }
 }
 
 // Its channels and their control stand in a part of their own.
-fn tint(entry: &[u8], channels: &[u8]) -> Tint {
-    Tint {
-        mode: mode(byte(entry, 1)),
-        x: word(entry, 2),
-        y: word(entry, 4),
-        tc: word(entry, 6),
-        levels: array(channels, 0),
-        control: byte(channels, 6),
+fn tint(entry: Entry, channels: Entry) -> Option<Tint> {
+    Some(Tint {
+        mode: mode_of(entry.byte(1))?,
+        x: entry.word(2),
+        y: entry.word(4),
+        tc: entry.word(6),
+        levels: channels.array(0),
+        control: channels.byte(6),
+    })
+}
+
+fn active(gear: &mut Gear, entry: Entry) -> Option<()> {
+    gear.colour.active = tint(entry, entry.from(9))?;
+    gear.colour.outside = entry.flag(8);
+    Some(())
+}
+
+fn device_types(gear: &mut Gear, entry: Entry) {
+    gear.unit.count = entry.byte(1);
+    gear.unit.types = entry.array(2);
+}
+
+fn bank_byte(gear: &mut Gear, entry: Entry) -> Option<()> {
+    let [bank, offset, value] = entry.array::<3>(1);
+    gear.banks = match bank {
+        0 if offset < 29 => gear
+            .banks
+            .with_identity(stored_at(gear.banks.identity, offset, value)),
+        1 if offset < 17 => gear
+            .banks
+            .with_profile(stored_at(gear.banks.profile, offset, value)),
+        _ => return None,
+    };
+    Some(())
+}
+
+fn heard(gear: &mut Gear, entry: Entry) {
+    gear.marks.reset = entry.flag(1);
+    gear.marks.cycled = entry.flag(2);
+    gear.marks.identifying = entry.flag(3);
+    gear.marks.writable = entry.flag(4);
+}
+
+fn put(gear: &mut Gear, entry: Entry) -> Option<()> {
+    match entry.kind() {
+        64 => levels(gear, entry),
+        // A cursor of the type walk, or off.
+        65 => gear.marks.walk = entry.number(1),
+        66 => addressing(gear, entry),
+        67 => scene(gear, entry)?,
+        68 => gear.colour.report = entry.setting(1),
+        69 => gear.settings.on = stored(entry),
+        70 => gear.settings.failure = stored(entry),
+        71 => active(gear, entry)?,
+        72 => gear.colour.pending = tint(entry, entry.from(8))?,
+        73 => device_types(gear, entry),
+        74 => bank_byte(gear, entry)?,
+        75 => heard(gear, entry),
+        _ => return None,
     }
+    Some(())
 }
 
-fn active(colour: Colour, entry: &[u8]) -> Colour {
-    Colour {
-        active: tint(entry, from(entry, 9)),
-        outside: flag(entry, 8),
-        ..colour
-    }
-}
-
-fn device_types(unit: Unit, entry: &[u8]) -> Unit {
-    Unit {
-        count: byte(entry, 1),
-        types: types(entry),
-        ..unit
-    }
-}
-
-fn bank_byte(banks: Banks, entry: &[u8]) -> Banks {
-    let offset = byte(entry, 2);
-    let value = byte(entry, 3);
-    match byte(entry, 1) {
-        0 => banks.with_identity(stored_at(banks.identity, offset, value)),
-        _ => banks.with_profile(stored_at(banks.profile, offset, value)),
-    }
-}
-
-fn heard(marks: Marks, entry: &[u8]) -> Marks {
-    Marks {
-        reset: flag(entry, 1),
-        cycled: flag(entry, 2),
-        identifying: flag(entry, 3),
-        writable: flag(entry, 4),
-        ..marks
-    }
-}
-
-// The colour of a scene; its level stays.
-fn scene(mut scenes: [LevelSetting; 16], entry: &[u8]) -> [LevelSetting; 16] {
-    if let Some(scene) = scenes.get_mut(byte(entry, 1) as usize) {
-        scene.colour = setting(entry, 2);
-    }
-    scenes
-}
-
-fn with_colour(gear: Gear, colour: Colour) -> Gear {
-    Gear { colour, ..gear }
-}
-
-fn with_marks(gear: Gear, marks: Marks) -> Gear {
-    Gear { marks, ..gear }
-}
-
-fn with_settings(gear: Gear, settings: Settings) -> Gear {
-    Gear { settings, ..gear }
-}
-
-// Kinds 64 to 70.
-fn place_setting(gear: Gear, entry: &[u8], kind: u8) -> Gear {
-    let settings = gear.settings;
-    match kind {
-        64 => Gear {
-            levels: levels(gear.levels, entry),
-            ..gear
-        },
-        65 => with_marks(gear, gear.marks.with_walk(number(entry, 1))),
-        66 => Gear {
-            marks: addressing(gear.marks, entry),
-            settings: Settings {
-                curve: byte(entry, 3),
-                ..settings
-            },
-            ..gear
-        },
-        67 => Gear {
-            scenes: scene(gear.scenes, entry),
-            ..gear
-        },
-        68 => with_colour(
-            gear,
-            Colour {
-                report: setting(entry, 1),
-                ..gear.colour
-            },
-        ),
-        69 => with_settings(
-            gear,
-            Settings {
-                on: stored(entry),
-                ..settings
-            },
-        ),
-        _ => with_settings(
-            gear,
-            Settings {
-                failure: stored(entry),
-                ..settings
-            },
-        ),
-    }
-}
-
-// Kinds 71 to 75.
-fn place_state(gear: Gear, entry: &[u8], kind: u8) -> Gear {
-    match kind {
-        71 => with_colour(gear, active(gear.colour, entry)),
-        72 => with_colour(
-            gear,
-            Colour {
-                pending: tint(entry, from(entry, 8)),
-                ..gear.colour
-            },
-        ),
-        73 => Gear {
-            unit: device_types(gear.unit, entry),
-            ..gear
-        },
-        74 => Gear {
-            banks: bank_byte(gear.banks, entry),
-            ..gear
-        },
-        _ => with_marks(gear, heard(gear.marks, entry)),
-    }
-}
-
-pub fn place(gear: Gear, entry: &[u8], kind: u8) -> Outcome {
-    if kind <= 70 {
-        return done(place_setting(gear, entry, kind));
-    }
-    done(place_state(gear, entry, kind))
+// A placing leaves a fit record, which has at most 16 types, and a cursor of at most 16.
+pub fn place(mut gear: Gear, entry: Entry) -> Option<Outcome> {
+    put(&mut gear, entry)?;
+    gear.fit().then(|| done(gear))
 }

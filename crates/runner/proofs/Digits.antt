@@ -2,86 +2,113 @@
 use Prim.Native.Nat.{ℕ, zero, suc, ◌+◌, ◌-◌, ◌*◌, ◌/◌, ◌%◌, ◌^◌, ◌≤◌, ◌<◌}
 use native.Mathlib.Nat.{pow-suc, div-lt_iff_lt-mul, div-add-mod'}
 use native.Mathlib.Omega.{arith}
-use mathlib.Core.Path.{◌≡◌, refl, ap, ap₂, ◌∙◌}
+use mathlib.Core.Path.{◌≡◌, refl, ap}
 use mathlib.Core.List.{List, [], ◌∷◌, ◌++◌}
-use lib.Dec.{ltb}
+use lib.Dec.{leb, ltb}
 use lib.ListN.{length, get_or, length-append, get_or-append}
-use borrow.Author.Tests.{lt-ltb, le-ltb, ltb-false, ltb-true}
-use Rattle.runner.specs.Line.{digit, digits, last_two}
+use borrow.Author.Tests.{le-leb, leb-false, leb-true, lt-leb, lt-ltb, ltb-false, ltb-true}
+use Rattle.runner.specs.Line.{digit, digits}
+use Rattle.numbers.specs.Numbers.{pick}
 use Rattle.numbers.proofs.Logic.{by_cases}
 
-pub digits_one : (most n : ℕ) → 0 < most → n < 10 → digits most n ≡ digit n ∷ []
+-- ## One digit after the other, from the first
+
+-- the units of the first four digits of five, and those of the digits before them
+abbrev pub unit : ℕ → ℕ
+unit i = get_or (10000 ∷ 1000 ∷ 100 ∷ 10 ∷ []) i 0
+
+abbrev pub unit_before : ℕ → ℕ
+unit_before i = get_or (100000 ∷ 10000 ∷ 1000 ∷ 100 ∷ 10 ∷ []) i 0
+
+-- of the first i digits those that are not leading zeros; what is left behind the first i is the rest of a division
+unfoldable pub front : ℕ → ℕ → List ℕ
+front i n = pick (leb (unit_before i) n) (digits i (n / unit_before i)) []
+
+pub front_none : (n : ℕ) → front 0 n ≡ []
+unfolding front digits
+front_none n = by_cases (leb 100000 n) (λ e. rw e refl) (λ e. rw e refl)
+
+-- with u the unit of the next digit, and p the one before it
+one_more :
+    (most n u p : ℕ) → u ≤ n → (n / u < 10 → n < p) → (10 ≤ n / u → p ≤ n) → (n < p → n / u ≡ n % p / u) → n / u / 10 ≡ n / p →
+    n / u % 10 ≡ n % p / u → pick (leb u n) (digits (suc most) (n / u)) [] ≡ pick (leb p n) (digits most (n / p)) [] ++ (digit (n % p / u) ∷ [])
 unfolding digits
-digits_one zero n h small = absurd (omega arith)
-digits_one (suc most) n h small = rw (lt-ltb n 10 small)
+one_more most n u p some few many first before last =
+    rw (le-leb u n some)
+    (by_cases (ltb (n / u) 10)
+    (λ one. let small = few (ltb-true (n / u) 10 one) in rw (one, lt-leb p n small) (ap (λ d. digit d ∷ []) (first small)))
+    (λ more. let large = many (ltb-false (n / u) 10 more) in rw (more, le-leb p n large, before, last) refl))
 
--- ## A number of so many digits
+pub front_more : (i n : ℕ) → i < 4 → unit i ≤ n → front (i + 1) n ≡ front i n ++ (digit (n % unit_before i / unit i) ∷ [])
+unfolding front
+front_more zero n low some = one_more 0 n 10000 100000 some (λ h. omega arith) (λ h. omega arith) (λ h. omega arith) (omega arith) (omega arith)
+front_more (suc zero) n low some = one_more 1 n 1000 10000 some (λ h. omega arith) (λ h. omega arith) (λ h. omega arith) (omega arith) (omega arith)
+front_more (suc (suc zero)) n low some = one_more 2 n 100 1000 some (λ h. omega arith) (λ h. omega arith) (λ h. omega arith) (omega arith) (omega arith)
+front_more (suc (suc (suc zero))) n low some = one_more 3 n 10 100 some (λ h. omega arith) (λ h. omega arith) (λ h. omega arith) (omega arith) (omega arith)
+front_more (suc (suc (suc (suc i)))) n low some = absurd (omega arith)
 
-pub of_two : (n : ℕ) → 10 ≤ n → n < 100 → digits 5 n ≡ last_two n
-unfolding digits
-of_two n h l =
-    let one : n / 10 ≡ n / 10 % 10 = omega arith in
-    rw (le-ltb n 10 h, lt-ltb (n / 10) 10 (omega arith)) (ap (λ d. digit d ∷ digit (n % 10) ∷ []) one)
+pub front_same : (i n : ℕ) → i < 4 → n < unit i → front (i + 1) n ≡ front i n
+unfolding front
+front_same zero n low none = rw (lt-leb 10000 n none, lt-leb 100000 n (omega arith)) refl
+front_same (suc zero) n low none = rw (lt-leb 1000 n none, lt-leb 10000 n (omega arith)) refl
+front_same (suc (suc zero)) n low none = rw (lt-leb 100 n none, lt-leb 1000 n (omega arith)) refl
+front_same (suc (suc (suc zero))) n low none = rw (lt-leb 10 n none, lt-leb 100 n (omega arith)) refl
+front_same (suc (suc (suc (suc i)))) n low none = absurd (omega arith)
 
-pub of_three : (n : ℕ) → 100 ≤ n → n < 1000 → digits 5 n ≡ digit (n / 100 % 10) ∷ last_two n
-unfolding digits
-of_three n h l =
-    let one : n / 10 / 10 ≡ n / 100 % 10 = omega arith in
-    rw (le-ltb n 10 (omega arith), le-ltb (n / 10) 10 (omega arith), lt-ltb (n / 10 / 10) 10 (omega arith))
-    (ap (λ d. digit d ∷ last_two n) one)
+pub rest_more : (i n : ℕ) → i < 4 → n % unit_before i % unit i ≡ n % unit_before (i + 1)
+rest_more zero n low = omega arith
+rest_more (suc zero) n low = omega arith
+rest_more (suc (suc zero)) n low = omega arith
+rest_more (suc (suc (suc zero))) n low = omega arith
+rest_more (suc (suc (suc (suc i)))) n low = absurd (omega arith)
 
-pub of_four : (n : ℕ) → 1000 ≤ n → n < 10000 → digits 5 n ≡ digit (n / 1000 % 10) ∷ digit (n / 100 % 10) ∷ last_two n
-unfolding digits
-of_four n h l =
-    let one : n / 10 / 10 / 10 ≡ n / 1000 % 10 = omega arith in
-    let two : n / 10 / 10 % 10 ≡ n / 100 % 10 = omega arith in
-    rw (le-ltb n 10 (omega arith), le-ltb (n / 10) 10 (omega arith), le-ltb (n / 10 / 10) 10 (omega arith), lt-ltb (n / 10 / 10 / 10) 10 (omega arith))
-    (ap₂ (λ d e. digit d ∷ digit e ∷ last_two n) one two)
+pub rest_same : (i n : ℕ) → i < 4 → n < unit i → n % unit_before i ≡ n % unit_before (i + 1)
+rest_same zero n low none = omega arith
+rest_same (suc zero) n low none = omega arith
+rest_same (suc (suc zero)) n low none = omega arith
+rest_same (suc (suc (suc zero))) n low none = omega arith
+rest_same (suc (suc (suc (suc i)))) n low none = absurd (omega arith)
 
--- the first of five digits, or of more
-first_of_five : (n : ℕ) → digits 1 (n / 10 / 10 / 10 / 10) ≡ digit (n / 10000 % 10) ∷ []
-unfolding digits
-first_of_five n =
-    let more : n / 10 / 10 / 10 / 10 % 10 ≡ n / 10000 % 10 = omega arith in
-    by_cases (ltb (n / 10 / 10 / 10 / 10) 10)
-    (λ one.
-    let small = ltb-true (n / 10 / 10 / 10 / 10) 10 one in
-    let same : n / 10 / 10 / 10 / 10 ≡ n / 10000 % 10 = omega arith in
-    rw one (ap (λ d. digit d ∷ []) same))
-    (λ many. rw many (ap (λ d. digit d ∷ []) more))
+pub rest_digit : (i n : ℕ) → i < 4 → n % unit_before i / unit i < 10
+rest_digit zero n low = omega arith
+rest_digit (suc zero) n low = omega arith
+rest_digit (suc (suc zero)) n low = omega arith
+rest_digit (suc (suc (suc zero))) n low = omega arith
+rest_digit (suc (suc (suc (suc i)))) n low = absurd (omega arith)
 
-pub of_five : (n : ℕ) → 10000 ≤ n → digits 5 n ≡ digit (n / 10000 % 10) ∷ digit (n / 1000 % 10) ∷ digit (n / 100 % 10) ∷ last_two n
-unfolding digits
-of_five n h =
-    let one : n / 10 / 10 / 10 % 10 ≡ n / 1000 % 10 = omega arith in
-    let two : n / 10 / 10 % 10 ≡ n / 100 % 10 = omega arith in
-    rw (le-ltb n 10 (omega arith), le-ltb (n / 10) 10 (omega arith), le-ltb (n / 10 / 10) 10 (omega arith), le-ltb (n / 10 / 10 / 10) 10 (omega arith))
-    (ap (λ ds. (((ds ++ (digit (n / 10 / 10 / 10 % 10) ∷ [])) ++ (digit (n / 10 / 10 % 10) ∷ [])) ++ (digit (n / 10 % 10) ∷ [])) ++ (digit (n % 10) ∷ [])) (first_of_five n) ∙
-    ap₂ (λ d e. digit (n / 10000 % 10) ∷ digit d ∷ digit e ∷ last_two n) one two)
+-- the last digit stands there, zero or not
+pub front_last : (n : ℕ) → digits 5 n ≡ front 4 n ++ (digit (n % 10) ∷ [])
+unfolding front digits
+front_last n =
+    by_cases (ltb n 10)
+    (λ one. let small = ltb-true n 10 one in rw (one, lt-leb 10 n small) (ap (λ d. digit d ∷ []) (omega arith)))
+    (λ more. rw (more, le-leb 10 n (ltb-false n 10 more)) refl)
 
--- ## The rest of a division
+front_grows : (i n : ℕ) → i < 4 → length (front i n) ≤ length (front (i + 1) n)
+front_grows i n low =
+    by_cases (leb (unit i) n)
+    (λ some. rw (front_more i n low (leb-true (unit i) n some), length-append) (omega arith))
+    (λ none. rw (front_same i n low (leb-false (unit i) n none)) (omega arith))
 
--- what is left after the first digit has the other digits
-pub rest_two : (n : ℕ) → last_two (n % 100) ≡ last_two n
-rest_two n =
-    let one : n % 100 / 10 % 10 ≡ n / 10 % 10 = omega arith in
-    let two : n % 100 % 10 ≡ n % 10 = omega arith in
-    ap₂ (λ d e. digit d ∷ digit e ∷ []) one two
+within :
+    (i n : ℕ) {m : ℕ} → i ≤ 4 → m ≡ length (front 4 n) + 1 → length (front 0 n) ≤ length (front 1 n) → length (front 1 n) ≤ length (front 2 n) →
+    length (front 2 n) ≤ length (front 3 n) → length (front 3 n) ≤ length (front 4 n) → length (front i n) + 1 ≤ m
+within zero n low e a b c d = omega arith
+within (suc zero) n low e a b c d = omega arith
+within (suc (suc zero)) n low e a b c d = omega arith
+within (suc (suc (suc zero))) n low e a b c d = omega arith
+within (suc (suc (suc (suc zero)))) n low e a b c d = omega arith
+within (suc (suc (suc (suc (suc i))))) n low e a b c d = absurd (omega arith)
 
-pub rest_three : (n : ℕ) → digit (n % 1000 / 100 % 10) ∷ last_two (n % 1000) ≡ digit (n / 100 % 10) ∷ last_two n
-rest_three n =
-    let one : n % 1000 / 100 % 10 ≡ n / 100 % 10 = omega arith in
-    let two : n % 1000 / 10 % 10 ≡ n / 10 % 10 = omega arith in
-    let three : n % 1000 % 10 ≡ n % 10 = omega arith in
-    rw (one, two, three) refl
-
-pub rest_four : (n : ℕ) → digit (n % 10000 / 1000 % 10) ∷ digit (n % 10000 / 100 % 10) ∷ last_two (n % 10000) ≡ digit (n / 1000 % 10) ∷ digit (n / 100 % 10) ∷ last_two n
-rest_four n =
-    let one : n % 10000 / 1000 % 10 ≡ n / 1000 % 10 = omega arith in
-    let two : n % 10000 / 100 % 10 ≡ n / 100 % 10 = omega arith in
-    let three : n % 10000 / 10 % 10 ≡ n / 10 % 10 = omega arith in
-    let four : n % 10000 % 10 ≡ n % 10 = omega arith in
-    rw (one, two, three, four) refl
+-- there is room for one digit behind the first i
+pub front_within : (i n : ℕ) → i ≤ 4 → length (front i n) + 1 ≤ length (digits 5 n)
+front_within i n low =
+    let last : length (digits 5 n) ≡ length (front 4 n) + 1 = rw (front_last n, length-append) refl in
+    let a = front_grows 0 n (omega arith) in
+    let b = front_grows 1 n (omega arith) in
+    let c = front_grows 2 n (omega arith) in
+    let d = front_grows 3 n (omega arith) in
+    within i n low last a b c d
 
 -- ## How many
 

@@ -44,18 +44,8 @@ line_length number a few =
     let second = answer_length a in
     rw length-append (rw length-append (omega arith))
 
-pub end_length : (level min max : ℕ) → level < 256 → min < 256 → max < 256 → length (end_text level min max) ≤ 16
-unfolding end_text
-end_length level min max hl hn hx =
-    let a = number_length level 32 3 (digits_length 5 level 3 (omega arith) (omega arith)) in
-    let b = number_length min 32 3 (digits_length 5 min 3 (omega arith) (omega arith)) in
-    let c = number_length max 10 3 (digits_length 5 max 3 (omega arith) (omega arith)) in
-    simp length-append (omega arith)
-
-pub end_fits :
-    (at level min max : ℕ) {room : ℕ} → level < 256 → min < 256 → max < 256 → at + 16 ≤ room →
-    at + length (end_text level min max) ≤ room
-end_fits at level min max hl hn hx h = let l = end_length level min max hl hn hx in omega arith
+pub byte_length : (n behind : ℕ) → n < 256 → length (number_text n behind) ≤ 4
+byte_length n behind h = number_length n behind 3 (digits_length 5 n 3 (omega arith) (omega arith))
 
 pub bad_length : (offset : ℕ) → offset ≤ 16412 → length (bad_text offset) ≤ 10
 unfolding bad_text

@@ -2,10 +2,10 @@
 use Prim.Native.Nat.{ℕ, ◌+◌, ◌≤◌, ◌<◌}
 use native.Mathlib.Nat.{add_assoc, add-zero}
 use native.Mathlib.Numerals.{add-one}
-use native.Mathlib.Omega.{arith}
 use mathlib.Core.Path.{◌≡◌, refl, sym, ap, ◌∙◌}
 use mathlib.Core.List.{List, [], ◌∷◌, ◌++◌, append_assoc}
-use lib.ListN.{length, take, drop, set, length-append, length-drop, take-append-drop}
+use lib.ListN.{length, take, drop, set, length-append, take-append-drop}
+use borrow.Rule.Slice.PartMut.{put_mid}
 use lib.Seq.{length-take-le, take_at, drop-append-add, drop-drop, set_split}
 use Rattle.runner.specs.Line.{written, Wrote}
 
@@ -44,19 +44,15 @@ unfolding written
 wrote_byte l at x h =
     record { bytes = set_split l at x h ∙ ap (λ k. take at l ++ x ∷ drop k l) (sym (add-one at)); next_is = refl }
 
--- ## Two texts, one behind the other
-
-length_written : (l : List ℕ) (at : ℕ) (a : List ℕ) → at + length a ≤ length l → length (written l at a) ≡ length l
+-- a part of the list
+pub wrote_part :
+    {l mid : List ℕ} {at k : ℕ} {text : List ℕ} → at + length text ≤ length l → k ≡ length text → mid ≡ text →
+    Wrote l at text (put_mid at k l mid) (at + length text)
 unfolding written
-length_written l at a room =
-    simp (length-append, length-take-le at l (omega arith), length-drop) (omega arith)
+wrote_part {l} {at = at} {text = text} h e same =
+    record { bytes = rw (same, e) (ap (λ r. take at l ++ (text ++ r)) (drop-drop (length text) at l)); next_is = refl }
 
-pub room_then :
-    {old mid : List ℕ} {at r : ℕ} {a : List ℕ} (b : List ℕ) →
-    at + length (a ++ b) ≤ length old → Wrote old at a mid r → r + length b ≤ length mid
-room_then {old} {mid} {at} {r} {a} b room w =
-    let same = ap length w.bytes ∙ length_written old at a (omega (arith, length-append a b)) in
-    omega (arith, same, w.next_is, length-append a b)
+-- ## Two texts, one behind the other
 
 pub wrote_behind :
     {old mid new : List ℕ} {at r e : ℕ} {a b : List ℕ} →
@@ -68,8 +64,3 @@ wrote_behind {old} {mid} {new} {at} {r} {e} {a} {b} within first second =
           written_append old at a b within;
       next_is = second.next_is ∙ ap (λ k. k + length b) first.next_is ∙ add_assoc at (length a) (length b) ∙ ap (λ k. at + k) (sym (length-append a b));
     }
-
-pub wrote_then :
-    {old mid new : List ℕ} {at r e : ℕ} {a b : List ℕ} →
-    at + length (a ++ b) ≤ length old → Wrote old at a mid r → Wrote mid r b new e → Wrote old at (a ++ b) new e
-wrote_then room first second = wrote_behind (omega arith) first second

@@ -1,3 +1,4 @@
 pub mod Ask
 pub mod Line
+pub mod Lines
 pub mod Run

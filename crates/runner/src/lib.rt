@@ -4,4 +4,6 @@
 pub mod ask;
 mod follow;
 mod line;
+mod perform;
 pub mod run;
+mod write;

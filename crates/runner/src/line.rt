@@ -1,166 +1,144 @@
-// Lines of text in a lent buffer. Each function writes at a place, and answers the place right behind what it wrote.
-ghost use Rattle.std.specs.Prelude.{◌≡◌, [], ◌∷◌, ◌++◌, ◌+◌, ◌≤◌, ◌<◌, ◌/◌, ◌%◌, length};
+// Lines of text in a lent buffer.
+ghost use Rattle.std.specs.Prelude.{◌≡◌, [], ◌∷◌, ◌++◌, ◌+◌, ◌≤◌, ◌<◌, ltb, length};
 ghost use Rattle.gear.specs.Answer.{refusal_number};
-ghost use Rattle.runner.specs.Line.{digit, digits, last_two, number_text, answer_text, line_text, end_text, bad_text, Wrote};
+ghost use Rattle.runner.specs.Line.{digit, digits, number_text, answer_text, end_text, bad_text};
+ghost use Rattle.runner.specs.Lines.{HasRoom, Put};
 
 use gear::answer::{Answer, Refusal, Reply};
 
-const SPACE: u8 = 32;
-
-const FEED: u8 = 10;
-
-fn put(buf: &mut [u8], at: usize, byte: u8) -> usize
-    requires { at < length buf.old }
-    ensures { Wrote buf.old at (byte ∷ []) buf.new result }
-{
-    buf[at] = byte;
-    at + 1
+// A buffer, and where what is written so far ends. Where the buffer is empty, lines of steps are not wanted.
+#[derive(Drop)]
+pub(crate) struct Lines<'a> {
+    pub out: &'a mut [u8],
+    pub at: usize,
 }
 
 // The byte of a digit.
-fn digit(n: usize) -> u8
+fn digit(n: u16) -> u8
     requires { n < 10 }
     ensures { result ≡ digit n }
 {
-    (48 + n) as u8
+    b'0' + n as u8
 }
 
-// The two digits of a number below 100, zeros too; below, three, four, and the last five of any number.
-// Each function divides for its first digit, and hands the rest of that division on.
-fn put_two(buf: &mut [u8], at: usize, n: usize) -> usize
-    requires { (n < 100) × (at + 2 ≤ length buf.old) }
-    ensures { Wrote buf.old at (last_two n) buf.new result }
-{
-    let next = put(buf, at, digit(n / 10));
-    put(buf, next, digit(n % 10))
-}
-
-fn put_three(buf: &mut [u8], at: usize, n: usize) -> usize
-    requires { (n < 1000) × (at + 3 ≤ length buf.old) }
-    ensures { Wrote buf.old at (digit (n / 100 % 10) ∷ last_two n) buf.new result }
-{
-    let next = put(buf, at, digit(n / 100));
-    put_two(buf, next, n % 100)
-}
-
-fn put_four(buf: &mut [u8], at: usize, n: usize) -> usize
-    requires { (n < 10000) × (at + 4 ≤ length buf.old) }
-    ensures { Wrote buf.old at (digit (n / 1000 % 10) ∷ digit (n / 100 % 10) ∷ last_two n) buf.new result }
-{
-    let next = put(buf, at, digit(n / 1000));
-    put_three(buf, next, n % 1000)
-}
-
-fn put_five(buf: &mut [u8], at: usize, n: usize) -> usize
-    requires { at + 5 ≤ length buf.old }
-    ensures { Wrote buf.old at (digit (n / 10000 % 10) ∷ digit (n / 1000 % 10) ∷ digit (n / 100 % 10) ∷ last_two n) buf.new result }
-{
-    let next = put(buf, at, digit(n / 10000 % 10));
-    put_four(buf, next, n % 10000)
-}
-
-// A number below 100,000, as all numbers here are, without leading zeros.
-fn put_digits(buf: &mut [u8], at: usize, n: usize) -> usize
-    requires { at + length (digits 5 n) ≤ length buf.old }
-    ensures { Wrote buf.old at (digits 5 n) buf.new result }
-{
-    if n < 10 {
-        return put(buf, at, digit(n));
+// By hand, since `write!` and Display promise their bytes for a String alone (the kit's LIBRARY.md, 'What a clause knows of printed text'),
+// and a String wants a heap, which this project has none of.
+impl<'a> Lines<'a> {
+    fn put(&mut self, byte: u8)
+        requires { HasRoom self.old (byte ∷ []) }
+        ensures { Put self.old (byte ∷ []) self.new }
+    {
+        self.out[self.at] = byte;
+        self.at += 1;
     }
-    if n < 100 {
-        return put_two(buf, at, n);
+
+    // A number without leading zeros.
+    fn put_digits(&mut self, n: u16)
+        requires { HasRoom self.old (digits 5 n) }
+        ensures { Put self.old (digits 5 n) self.new }
+    {
+        let mut rest = n;
+        for unit in [10_000, 1000, 100, 10] {
+            if unit <= n {
+                self.put(digit(rest / unit));
+                rest %= unit;
+            }
+        }
+        self.put(digit(rest));
     }
-    if n < 1000 {
-        return put_three(buf, at, n);
+
+    // A number, and the byte behind it.
+    #[tactic(auto, using(crate::proofs::Put::puts), unfolding(crate::specs::Line::number_text))]
+    fn put_number(&mut self, n: u16, behind: u8)
+        requires { HasRoom self.old (number_text n behind) }
+        ensures { Put self.old (number_text n behind) self.new }
+    {
+        self.put_digits(n);
+        self.put(behind);
     }
-    if n < 10000 {
-        return put_four(buf, at, n);
+
+    // `!`, and at once the number.
+    #[tactic(auto, using(crate::proofs::Put::puts))]
+    fn put_refusal(&mut self, refusal: Refusal)
+        requires { HasRoom self.old ((33 ∷ []) ++ digits 5 (refusal_number refusal)) }
+        ensures { Put self.old ((33 ∷ []) ++ digits 5 (refusal_number refusal)) self.new }
+    {
+        self.put(b'!');
+        self.put_digits(u16::from(u8::from(refusal)));
     }
-    put_five(buf, at, n)
-}
 
-// A number, and the byte behind it.
-fn put_number(buf: &mut [u8], at: usize, n: usize, behind: u8) -> usize
-    requires { at + length (number_text n behind) ≤ length buf.old }
-    ensures { Wrote buf.old at (number_text n behind) buf.new result }
-{
-    let next = put_digits(buf, at, n);
-    put(buf, next, behind)
-}
-
-// `!`, and at once the number.
-fn put_refusal(buf: &mut [u8], at: usize, refusal: Refusal) -> usize
-    requires { at + length ((33 ∷ []) ++ digits 5 (refusal_number refusal)) ≤ length buf.old }
-    ensures { Wrote buf.old at ((33 ∷ []) ++ digits 5 (refusal_number refusal)) buf.new result }
-{
-    let number = u8::from(refusal);
-    let next = put(buf, at, b'!');
-    put_digits(buf, next, number as usize)
-}
-
-#[tactic(auto, unfolding(crate::specs::Line::answer_text))]
-fn put_answer(buf: &mut [u8], at: usize, answer: Answer) -> usize
-    requires { at + length (answer_text answer) ≤ length buf.old }
-    ensures { Wrote buf.old at (answer_text answer) buf.new result }
-{
-    match answer {
-        Ok(Reply::Done) => put(buf, at, b'.'),
-        Ok(Reply::Value(value)) => put_digits(buf, at, value as usize),
-        Ok(Reply::Nothing) => put(buf, at, b'-'),
-        Ok(Reply::Incapable(_)) => put(buf, at, b'~'),
-        Err(refusal) => put_refusal(buf, at, refusal),
+    #[tactic(auto, unfolding(crate::specs::Line::answer_text))]
+    fn put_answer(&mut self, answer: Answer)
+        requires { HasRoom self.old (answer_text answer) }
+        ensures { Put self.old (answer_text answer) self.new }
+    {
+        match answer {
+            Ok(Reply::Done) => self.put(b'.'),
+            Ok(Reply::Value(value)) => self.put_digits(value),
+            Ok(Reply::Nothing) => self.put(b'-'),
+            Ok(Reply::Incapable(_)) => self.put(b'~'),
+            Err(refusal) => self.put_refusal(refusal),
+        }
     }
-}
 
-// A step's number and its answer. Most steps are done: told apart here, before the number is written, such a line costs fewer
-// instructions. (With a value told apart too, a run of the library costs more again.)
-pub(crate) fn put_line(buf: &mut [u8], at: usize, number: usize, answer: Answer) -> usize
-    requires { at + length (line_text number answer) ≤ length buf.old }
-    ensures { Wrote buf.old at (line_text number answer) buf.new result }
-{
-    match answer {
-        Ok(Reply::Done) => put_answered(buf, at, number, Ok(Reply::Done)),
-        _ => put_answered(buf, at, number, answer),
+    fn wanted(&self) -> bool
+        ensures { result ≡ ltb 0 (length self.now.out.now) }
+    {
+        !self.out.is_empty()
     }
-}
 
-fn put_answered(buf: &mut [u8], at: usize, number: usize, answer: Answer) -> usize
-    requires { at + length (line_text number answer) ≤ length buf.old }
-    ensures { Wrote buf.old at (line_text number answer) buf.new result }
-{
-    let second = put_number(buf, at, number, SPACE);
-    let third = put_answer(buf, second, answer);
-    put(buf, third, FEED)
-}
+    // The front of a step's line, its number.
+    pub(crate) fn start_line(&mut self, number: u16)
+        requires { 0 < length self.old.out.now → HasRoom self.old (number_text number 32) }
+        ensures lines { 0 < length self.old.out.now → Put self.old (number_text number 32) self.new }
+        ensures size { length self.new.out.now ≡ length self.old.out.now }
+    {
+        if self.wanted() {
+            self.put_number(number, b' ');
+        }
+    }
 
-// Four letters, of which the last may be a space.
-fn put_letters(buf: &mut [u8], at: usize, a: u8, b: u8, c: u8, d: u8) -> usize
-    requires { at + 4 ≤ length buf.old }
-    ensures { Wrote buf.old at (a ∷ b ∷ c ∷ d ∷ []) buf.new result }
-{
-    let second = put(buf, at, a);
-    let third = put(buf, second, b);
-    let fourth = put(buf, third, c);
-    put(buf, fourth, d)
-}
+    // The rest of it, what the step answered.
+    #[tactic(auto, using(crate::proofs::Put::puts))]
+    pub(crate) fn end_line(&mut self, answer: Answer)
+        requires { 0 < length self.old.out.now → HasRoom self.old (answer_text answer ++ (10 ∷ [])) }
+        ensures lines { 0 < length self.old.out.now → Put self.old (answer_text answer ++ (10 ∷ [])) self.new }
+        ensures size { length self.new.out.now ≡ length self.old.out.now }
+    {
+        if self.wanted() {
+            self.put_answer(answer);
+            self.put(b'\n');
+        }
+    }
 
-// The last line: `end`, level, min and max.
-pub(crate) fn put_end(buf: &mut [u8], at: usize, level: u8, min: u8, max: u8) -> usize
-    requires { at + 16 ≤ length buf.old }
-    ensures line { Wrote buf.old at (end_text level min max) buf.new result }
-    ensures within { result ≤ length buf.old }
-{
-    let second = put_letters(buf, at, b'e', b'n', b'd', SPACE);
-    let third = put_number(buf, second, level as usize, SPACE);
-    let fourth = put_number(buf, third, min as usize, SPACE);
-    put_number(buf, fourth, max as usize, FEED)
-}
+    fn put_text(&mut self, text: &[u8])
+        requires { HasRoom self.old text.now }
+        ensures { Put self.old text.now self.new }
+    {
+        let end = self.at + text.len();
+        self.out[self.at..end].copy_from_slice(text);
+        self.at = end;
+    }
 
-// The only line for a malformed file.
-pub(crate) fn put_bad(buf: &mut [u8], at: usize, offset: usize) -> usize
-    requires { at + length (bad_text offset) ≤ length buf.old }
-    ensures { Wrote buf.old at (bad_text offset) buf.new result }
-{
-    let second = put_letters(buf, at, b'b', b'a', b'd', SPACE);
-    put_number(buf, second, offset, FEED)
+    // The last line: `end`, level, min and max.
+    #[tactic(auto, using(crate::proofs::Put::puts, crate::proofs::Lines::byte_length), unfolding(crate::specs::Line::end_text))]
+    pub(crate) fn put_end(&mut self, level: u8, min: u8, max: u8)
+        requires { self.old.at + 16 ≤ length self.old.out.now }
+        ensures { Put self.old (end_text level min max) self.new }
+    {
+        self.put_text(b"end ");
+        self.put_number(u16::from(level), b' ');
+        self.put_number(u16::from(min), b' ');
+        self.put_number(u16::from(max), b'\n');
+    }
+
+    // The only line for a malformed file.
+    #[tactic(auto, using(crate::proofs::Put::puts), unfolding(crate::specs::Line::bad_text))]
+    pub(crate) fn put_bad(&mut self, offset: u16)
+        requires { HasRoom self.old (bad_text offset) }
+        ensures { Put self.old (bad_text offset) self.new }
+    {
+        self.put_text(b"bad ");
+        self.put_number(offset, b'\n');
+    }
 }

@@ -1,14 +1,14 @@
 // A run of a session file: its steps one by one on the record of its profile, and the lines that this writes.
-ghost use Rattle.std.specs.Prelude.{◌≡◌, ◌≤◌, Ok, length};
+ghost use Rattle.std.specs.Prelude.{◌≡◌, ◌≤◌, Ok, Err, leb, length};
 ghost use Rattle.file.specs.File.{checked};
-ghost use Rattle.runner.specs.Line.{Wrote};
+ghost use Rattle.numbers.specs.Numbers.{pick};
+ghost use Rattle.runner.specs.Line.{bad_text, Wrote};
 ghost use Rattle.runner.specs.Run.{room, lines_of, bytes_of, ran, ran_into, reported, reported_into};
-ghost use Rattle.runner.specs.declared.run.RunError.TheVariants.{Malformed};
+ghost use Rattle.runner.specs.declared.run.RunError.TheVariants.{Malformed, Short};
 
-use crate::follow::follow;
-use crate::line::{put_bad, put_end};
-use file::{Malformed, check, profile_of, steps};
-use gear::record::Gear;
+use crate::follow::{first, follow};
+use crate::line::Lines;
+use file::{Malformed, check, steps};
 
 // Why nothing was run: the file is malformed, which is refusal 5, or the buffer too short, and wants so many bytes.
 #[derive(Clone, Copy, PartialEq, Eq, Debug)]
@@ -31,22 +31,43 @@ fn put_lines(file: &[u8], out: &mut [u8]) -> usize
     ensures lines { Wrote out.old 0 (lines_of file.now) out.new result }
     ensures within { result ≤ length out.old }
 {
-    let made = Gear::new(profile_of(file));
-    let gear = made.gear;
-    let steps = steps(file);
-    let finished = follow(gear, steps, steps.len() / 4, true, out);
-    let last = finished.gear;
-    let levels = last.levels;
-    put_end(out, finished.at, levels.level, levels.min, levels.max)
+    let mut gear = first(file);
+    let (_, at) = follow(&mut gear, steps(file), out);
+    let mut lines = Lines { out, at };
+    lines.put_end(gear.levels.level, gear.levels.min, gear.levels.max);
+    lines.at
 }
 
-// A buffer of so many bytes holds whatever the file's lines are.
+// The only line for a malformed file.
+#[tactic(auto, using(crate::proofs::Lines::bad_length))]
+fn put_bad(offset: usize, out: &mut [u8]) -> usize
+    requires short { offset ≤ 16412 }
+    requires room { 10 ≤ length out.old }
+    ensures { Wrote out.old 0 (bad_text offset) out.new result }
+{
+    let mut lines = Lines { out, at: 0 };
+    lines.put_bad(offset as u16);
+    lines.at
+}
+
+// A buffer of so many bytes holds whatever the file's lines are: `4096 65535` and a line feed for each step, `end 255 255 255` and one
+// for the last.
 #[tactic(auto, using(crate::proofs::Whole::count_most), unfolding(crate::specs::Run::room))]
 pub fn room(file: &[u8]) -> usize
     ensures { result ≡ room file.now }
 {
-    let steps = steps(file);
-    steps.len() / 4 * 11 + 16
+    steps(file).len() / 4 * 11 + 16
+}
+
+// Whether a buffer of so many bytes does.
+fn has_room(file: &[u8], len: usize) -> Result<(), RunError>
+    ensures { result ≡ pick (leb (room file.now) len) (Ok tt) (Err (Short (room file.now))) }
+{
+    let wanted = room(file);
+    if len < wanted {
+        return Err(RunError::Short(wanted));
+    }
+    Ok(())
 }
 
 // Runs a file, and tells how many bytes its lines have. Where it is malformed, or the buffer too short, nothing is run and nothing
@@ -58,10 +79,7 @@ pub fn run(file: &[u8], out: &mut [u8]) -> Result<usize, RunError>
     ensures within { bytes_of result ≤ length out.old }
 {
     check(file)?;
-    let wanted = room(file);
-    if out.len() < wanted {
-        return Err(RunError::Short(wanted));
-    }
+    has_room(file, out.len())?;
     Ok(put_lines(file, out))
 }
 
@@ -72,12 +90,9 @@ pub fn report(file: &[u8], out: &mut [u8]) -> Result<usize, RunError>
     ensures buffer { out.new ≡ reported_into file.now out.old }
     ensures within { bytes_of result ≤ length out.old }
 {
-    let wanted = room(file);
-    if out.len() < wanted {
-        return Err(RunError::Short(wanted));
-    }
+    has_room(file, out.len())?;
     match check(file) {
         Ok(()) => Ok(put_lines(file, out)),
-        Err(malformed) => Ok(put_bad(out, 0, malformed.offset)),
+        Err(malformed) => Ok(put_bad(malformed.offset, out)),
     }
 }

@@ -39,6 +39,7 @@ fn failed(rt: &impl Eprint, what: &str, error: io::Error) -> ExitCode {
 }
 
 fn main(rt: HostRuntime) -> ExitCode {
+    // No heap: document 01's array, and how much of it came.
     let mut file = [0u8; FILE_LEN];
     match read_full(&mut rt.stdin(), &mut file) {
         Ok(count) => match print(&mut rt.stdout(), &file[..count]) {

@@ -11,7 +11,7 @@ use Rattle.std.specs.Prelude.{Option, None, Some}
 use Rattle.colour.specs.declared.tint.ColorMode.{ColorMode}
 use Rattle.colour.specs.declared.tint.ColorMode.TheVariants.{None as NoMode, Cct, Xy, Rgb}
 use Rattle.colour.specs.declared.tint.Tint.{Tint}
-use Rattle.colour.specs.Tint.{colour_type_byte}
+use Rattle.colour.specs.Tint.{colour_type_byte, mode_of}
 use Rattle.gear.specs.declared.profile.Unit.{Unit}
 use Rattle.gear.specs.declared.record.Gear.{Gear}
 use Rattle.gear.specs.Marks.{walk_fit}
@@ -20,7 +20,7 @@ use Rattle.numbers.proofs.Logic.{both_right}
 use Rattle.slot.proofs.Lists.{bytes_back, bytes_cut, colour_back, flag_back, flags_back, setting_back, settings_back, word_back}
 use Rattle.slot.specs.Held.{Sound}
 use Rattle.slot.specs.Image.{image_of, open_flag, open_frame, put_colour, short_byte, typed, walk_byte}
-use Rattle.slot.specs.Record.{colour_in, gear_of, listed, mode_of, pair_of, short_of, tint_of, walk_of}
+use Rattle.slot.specs.Record.{colour_in, gear_of, listed, pair_of, short_of, tint_of, walk_of}
 
 pub image_length : (g : Gear) → length (image_of g) ≡ 512
 unfolding image_of

@@ -11,14 +11,14 @@ use borrow.Author.Tests.{eqb-true, leb-true, ltb-false, ltb-true}
 use native.Mathlib.Nat.{add-zero, add-suc, suc-add, suc-mul, add_comm}
 use native.Mathlib.Omega.{arith}
 use Rattle.colour.specs.declared.setting.ColourSetting.{ColourSetting}
-use Rattle.colour.specs.Tint.{colour_type_byte}
+use Rattle.colour.specs.Tint.{colour_type_byte, mode_of}
 use Rattle.gear.specs.Scene.{nowhere}
 use Rattle.gear.specs.Record.{fitb}
 use Rattle.numbers.proofs.Logic.{both_left, both_right, by_cases}
 use Rattle.numbers.specs.Numbers.{pick, both}
 use Rattle.slot.specs.Held.{Bytes, all_zero, at_most, canonical, heldb, is_kind, limits}
 use Rattle.slot.specs.Image.{flag_byte, image_of, open_flag, open_frame, put_all, put_banks, put_bytes, put_colour, put_colours, put_flags, put_front, put_marks, put_numbers, put_setting, put_settings, short_byte, typed, walk_byte}
-use Rattle.slot.specs.Record.{at, bytes_from, colour_in, flag_at, flags_from, gear_of, mode_of, setting_in, settings_in, short_of, tint_of, walk_of, word_at}
+use Rattle.slot.specs.Record.{at, bytes_from, colour_in, flag_at, flags_from, gear_of, setting_in, settings_in, short_of, tint_of, walk_of, word_at}
 
 -- ## Bytes laid out one by one
 
@@ -124,6 +124,10 @@ zeros_forth : (n : ℕ) (b : List ℕ) → length b ≡ n → ((i : ℕ) → at 
 zeros_forth n b len zeros =
     ext_get_or 0 (replicate n 0) b (length-replicate n 0 ∙ sym len) (λ i h. get_or-replicate n i 0 0 (rw length-replicate at h) ∙ sym (zeros i))
 
+pub is_fit : (b : List ℕ) → heldb b ≡ true → fitb (gear_of b) ≡ true
+unfolding heldb
+is_fit b held = both_right (canonical b) (fitb (gear_of b)) (both_right (at_most limits b) _ held)
+
 module _ (b : List ℕ) (len : length b ≡ 512) (bytes : Bytes b) (held : heldb b ≡ true) where
   low_enough : at_most limits b ≡ true
   unfolding heldb
@@ -132,10 +136,6 @@ module _ (b : List ℕ) (len : length b ≡ 512) (bytes : Bytes b) (held : heldb
   pub is_canonical : canonical b ≡ true
   unfolding heldb
   is_canonical = both_left (canonical b) (fitb (gear_of b)) (both_right (at_most limits b) _ held)
-
-  pub is_fit : fitb (gear_of b) ≡ true
-  unfolding heldb
-  is_fit = both_right (canonical b) (fitb (gear_of b)) (both_right (at_most limits b) _ held)
 
   many : length limits ≡ 512
   unfolding limits

@@ -53,11 +53,6 @@ module _ {A : Type 0} (code : A → ℕ) (none : A) where
 -- ## In the groups and the banks of a record
 
 module _ (b : List ℕ) (g : Gear) (h : Holds b g) (i : ℕ) where
-  pub group_read : i < 16 → get_or b (32 + i) 0 ≡ flag_byte (get_or g.settings.groups i false)
-  unfolding image_of
-  group_read l =
-      rw h.0 (read_in flag_byte false (take 32 (image_of g)) (drop 48 (image_of g)) 16 i g.settings.groups l)
-
   pub group_stored :
       (v : Bool) → i < 16 →
       Holds (set b (32 + i) (flag_byte v)) (with_settings g (with_groups g.settings (set g.settings.groups i v)) g.colour)

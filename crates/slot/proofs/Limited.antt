@@ -8,6 +8,7 @@ use Rattle.std.proofs.lemmas.Bool.Decides.{nat_tests}
 use lib.Dec.{eqb, leb, ltb, eqb-suc-zero, leb-suc-zero, leb-zero}
 use lib.ListN.{drop, replicate, take}
 use Rattle.std.specs.List.{fold, list_all}
+use Rattle.std.specs.declared.ops.Range.{Range}
 use lib.Seq.{drop-drop, drop-nil, get_or-drop, take-nil}
 use borrow.Author.Tests.{le-leb, ltb-true}
 use native.Mathlib.Nat.{add-suc, add-zero, sub-zero, suc-add, suc-sub-suc}
@@ -58,14 +59,17 @@ some_of (suc n) l ls [] = rw (leb-zero l, some_of n l ls [], take-nil, drop-nil)
 some_of (suc n) l ls (x ∷ b) = by_cases (leb x l) (λ e. rw e (some_of n l ls b)) (λ e. rw e)
 
 -- the highest byte of a range is not above its limit
-abbrev pub below : List ℕ → ℕ × ℕ × ℕ → Bool
-below b r = leb (fold max 0 (take r.1 (drop r.0 b))) r.2
+abbrev pub below : List ℕ → Range ℕ × ℕ → Bool
+below b r = leb (fold max 0 (take (r.0.end - r.0.start) (drop r.0.start b))) r.1
 
 module _ (b : List ℕ) (bytes : Bytes b) where
   skip : (k n : ℕ) (ls : List ℕ) → at_most (replicate n 255 ++ ls) (drop k b) ≡ at_most ls (drop (k + n) b)
   skip k n ls = any n ls (drop k b) (bytes_drop k b bytes) ∙ ap (at_most ls) (drop-drop n k b)
 
-  part : (k n l : ℕ) (ls : List ℕ) → at_most (replicate n l ++ ls) (drop k b) ≡ below b (k, n, l) && at_most ls (drop (k + n) b)
+  abbrev low : ℕ → ℕ → ℕ → Bool
+  low k n l = leb (fold max 0 (take n (drop k b))) l
+
+  part : (k n l : ℕ) (ls : List ℕ) → at_most (replicate n l ++ ls) (drop k b) ≡ low k n l && at_most ls (drop (k + n) b)
   part k n l ls =
       some_of n l ls (drop k b) ∙ rw (highest 0 l (take n (drop k b)), leb-zero l, drop-drop)
 
@@ -73,13 +77,13 @@ module _ (b : List ℕ) (bytes : Bytes b) where
   pub by_limits : at_most limits b ≡ list_all (below b) LIMITS
   unfolding limits
   by_limits =
-      skip 0 3 (drop 3 limits) ∙ part 3 2 254 (drop 5 limits) ∙ ap (◌&&◌ (below b (3, 2, 254)))
-      (part 5 1 17 (drop 6 limits) ∙ ap (◌&&◌ (below b (5, 1, 17)))
-      (part 6 1 64 (drop 7 limits) ∙ ap (◌&&◌ (below b (6, 1, 64)))
-      (part 7 1 16 (drop 8 limits) ∙ ap (◌&&◌ (below b (7, 1, 16)))
-      (skip 8 3 (drop 11 limits) ∙ part 11 1 0 (drop 12 limits) ∙ ap (◌&&◌ (below b (11, 1, 0)))
-      (part 12 1 6 (drop 13 limits) ∙ ap (◌&&◌ (below b (12, 1, 6)))
-      (skip 13 19 (drop 32 limits) ∙ part 32 35 1 (drop 67 limits) ∙ ap (◌&&◌ (below b (32, 35, 1)))
+      skip 0 3 (drop 3 limits) ∙ part 3 2 254 (drop 5 limits) ∙ ap (◌&&◌ (low 3 2 254))
+      (part 5 1 17 (drop 6 limits) ∙ ap (◌&&◌ (low 5 1 17))
+      (part 6 1 64 (drop 7 limits) ∙ ap (◌&&◌ (low 6 1 64))
+      (part 7 1 16 (drop 8 limits) ∙ ap (◌&&◌ (low 7 1 16))
+      (skip 8 3 (drop 11 limits) ∙ part 11 1 0 (drop 12 limits) ∙ ap (◌&&◌ (low 11 1 0))
+      (part 12 1 6 (drop 13 limits) ∙ ap (◌&&◌ (low 12 1 6))
+      (skip 13 19 (drop 32 limits) ∙ part 32 35 1 (drop 67 limits) ∙ ap (◌&&◌ (low 32 35 1))
       (skip 67 374 (drop 441 limits) ∙ part 441 71 0 [])))))))
 
 -- ## The other tests
@@ -99,12 +103,13 @@ dropped zero n k b h = rw (add-zero, sub-zero)
 dropped (suc c) zero k b h = absurd (omega arith)
 dropped (suc c) (suc n) k b h = rw (suc-sub-suc, add-suc, ← suc-add) (dropped c n (suc k) b (omega arith))
 
-pub list_quiet_lem : (b : List ℕ) → at 7 b ≤ 16 → list_quiet b ≡ eqb (fold max 0 (take (16 - at 7 b) (drop (16 + at 7 b) b))) 0
+pub list_quiet_lem : (b : List ℕ) → at 7 b ≤ 16 → list_quiet b ≡ eqb (fold max 0 (take (32 - (16 + at 7 b)) (drop (16 + at 7 b) b))) 0
 list_quiet_lem b h =
     let n = 16 - at 7 b in
     let k = 16 + at 7 b in
+    let many : 32 - k ≡ n = omega arith in
     ap all_zero (dropped (at 7 b) 16 16 b h) ∙ zeros n k b ∙ rw (append-nil, and-true) at (some_of n 0 [] (drop k b)) ∙
-    rw (eqb_zero, highest 0 0 (take n (drop k b)))
+    rw (many, eqb_zero, highest 0 0 (take n (drop k b)))
 
 -- ## What the limits leave of a fit record's tests
 

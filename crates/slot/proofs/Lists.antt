@@ -4,9 +4,7 @@ use mathlib.Core.Path.{◌≡◌, refl, ap, ◌∙◌, sym}
 use mathlib.Core.Bool.{Bool, true, false}
 use mathlib.Core.List.{List, [], ◌∷◌}
 use lib.Dec.{eqb}
-use lib.ListN.{length, get_or, drop}
-use lib.Seq.{get_or-drop}
-use native.Mathlib.Nat.{add-suc}
+use lib.ListN.{length, get_or}
 use native.Mathlib.Omega.{arith}
 use mir.Syntax.{w8}
 use mir.Val.{Fits}
@@ -88,12 +86,6 @@ settings_back zero (x ∷ xs) t h six = absurd (omega arith)
 settings_back (suc n) [] t h six = absurd (omega arith)
 settings_back (suc n) (x ∷ xs) t h six =
     λ i. setting_back x (put_all put_setting nowhere n xs t) six.0 i ∷ settings_back n xs t (omega arith) six.1 i
-
--- ## Reading on
-
-pub bytes_at : (n k j : ℕ) (b : List ℕ) → bytes_from n j (drop k b) ≡ bytes_from n (k + j) b
-bytes_at zero k j b = refl
-bytes_at (suc n) k j b = λ i. get_or-drop k b j 0 i ∷ (bytes_at n k (suc j) b ∙ ap (λ (m : ℕ). bytes_from n m b) (add-suc k j)) i
 
 -- ## What the bytes of a slice are known to be
 

@@ -64,9 +64,6 @@ listed_fit g sound = rw (listed_type g 7 sound)
 
 -- ## Under the limits
 
-under : (l x : ℕ) (ls b : List ℕ) → x ≤ l → at_most ls b ≡ true → at_most (l ∷ ls) (x ∷ b) ≡ true
-under l x ls b h t = both_true (le-leb x l h) t
-
 bytes_under :
     (n k : ℕ) (b ls t : List ℕ) → length (take n (drop k b)) ≡ n → Bytes b → at_most ls t ≡ true →
     at_most (replicate n 255 ++ ls) (take n (drop k b) ++ t) ≡ true
@@ -200,7 +197,7 @@ module _ (b : List ℕ) (len : length b ≡ 512) (bytes : Bytes b) where
   pub held_sound : heldb b ≡ true → Sound (gear_of b)
   unfolding gear_of fitb
   held_sound held =
-      let fit = is_fit b len bytes held in
+      let fit = is_fit b held in
       let g = gear_of b in
       let unit = both_left (unit_fit 16 g.unit) _ fit in
       let rest = both_right (levels_fit (floor g.unit) g.levels) _ (both_right (unit_fit 16 g.unit) _ fit) in
@@ -208,6 +205,6 @@ module _ (b : List ℕ) (len : length b ≡ 512) (bytes : Bytes b) where
 
   pub held_exactly : (heldb b ≡ true) ↔ FitImage b
   held_exactly = (
-    λ held. record { gear = gear_of b; holds = (sym (image_forth b len bytes held), held_sound held); fit = is_fit b len bytes held },
+    λ held. record { gear = gear_of b; holds = (sym (image_forth b len bytes held), held_sound held); fit = is_fit b held },
     λ image. rw image.holds.0 (held_image image.gear image.holds.1 image.fit (rw image.holds.0 at bytes)),
   )

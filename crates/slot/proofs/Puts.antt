@@ -1,5 +1,5 @@
 -- Bytes put in front of others: as an array, entry by entry, and part by part behind what stands there already.
-use Prim.Native.Nat.{ℕ, zero, suc, ◌+◌, ◌≤◌}
+use Prim.Native.Nat.{ℕ, zero, suc, ◌+◌, ◌/◌, ◌%◌, ◌≤◌, ◌<◌}
 use mathlib.Core.Path.{◌≡◌, refl, ap, ◌∙◌, sym}
 use mathlib.Core.Bool.{Bool, true, false}
 use mathlib.Core.List.{List, [], ◌∷◌, ◌++◌, append_assoc, append-nil, map}
@@ -81,3 +81,8 @@ put_next said {front} {part} {whole} {before} {after} {place} e begun at put-her
 -- nothing is left behind so many bytes
 pub ended : (n : ℕ) {front whole bytes : List ℕ} → length front ≡ n → length whole ≡ n → Begun front whole bytes → bytes ≡ front
 ended n {front} {whole} f w begun = begun.is ∙ rw (drop_of_length-le whole {i = length front} (omega arith), append-nil)
+
+-- ## The high byte of a number of two bytes
+
+pub high_byte : (n : ℕ) → n < 65536 → n / 256 % 256 ≡ n / 256
+high_byte n h = omega arith

@@ -5,10 +5,9 @@ use Rattle.bank.specs.declared.build.Banks.{Banks}
 use Rattle.colour.specs.declared.limits.Limits.{Limits}
 use Rattle.colour.specs.declared.record.Colour.{Colour}
 use Rattle.colour.specs.declared.setting.ColourSetting.{ColourSetting}
-use Rattle.colour.specs.declared.tint.ColorMode.{ColorMode}
-use Rattle.colour.specs.declared.tint.ColorMode.TheVariants.{None, Cct, Xy, Rgb}
 use Rattle.colour.specs.declared.tint.Tint.{Tint}
 use Rattle.colour.specs.Limits.{range}
+use Rattle.colour.specs.Tint.{mode_of}
 use Rattle.gear.specs.declared.condition.Condition.{Condition}
 use Rattle.gear.specs.declared.marks.Marks.{Marks}
 use Rattle.gear.specs.declared.profile.Unit.{Unit}
@@ -16,7 +15,6 @@ use Rattle.gear.specs.declared.record.Gear.{Gear}
 use Rattle.gear.specs.declared.settings.LevelSetting.{LevelSetting}
 use Rattle.gear.specs.declared.settings.Settings.{Settings}
 use Rattle.level.specs.declared.levels.Levels.{Levels}
-use Rattle.numbers.specs.Numbers.{pick}
 
 -- ## Single values
 
@@ -38,10 +36,6 @@ walk_of n = then_some (ltb n 17) n
 
 abbrev pub pair_of : Bool → ℕ → Option ℕ
 pair_of waits frame = then_some waits frame
-
--- any byte but the three types is no mode
-abbrev pub mode_of : ℕ → ColorMode
-mode_of n = pick (eqb n 0x10) Xy (pick (eqb n 0x20) Cct (pick (eqb n 0x80) Rgb None))
 
 -- so many bytes from a place on, and so many flags
 abbrev pub bytes_from : ℕ → ℕ → List ℕ → List ℕ
@@ -70,6 +64,10 @@ tint_of s = record { mode = mode_of s.kind; x = s.x; y = s.y; tc = s.tc; levels 
 
 abbrev pub setting_in : List ℕ → LevelSetting
 setting_in b = record { colour = colour_in b; level = at 14 b }
+
+-- where a scene stands
+abbrev pub scene_place : ℕ → ℕ
+scene_place s = 155 + 15 * s
 
 abbrev pub settings_in : ℕ → List ℕ → List LevelSetting
 settings_in zero b = []

@@ -1,6 +1,5 @@
 // Bytes, words and arrays at the front of a part of a slot.
 ghost use Rattle.std.specs.Prelude.{◌≡◌, ◌+◌, ◌^◌, ◌<◌, drop};
-ghost use Rattle.slot.specs.Image.{flag_byte};
 ghost use Rattle.slot.specs.Record.{at, flag_at, word_at, bytes_from};
 
 use std::array;
@@ -18,19 +17,12 @@ pub fn flag(part: &[u8], place: usize) -> bool
     byte(part, place) == 1
 }
 
-// The byte of a flag.
-pub fn flag_byte(yes: bool) -> u8
-    ensures { result ≡ flag_byte yes }
-{
-    u8::from(yes)
-}
-
 // Two bytes, low byte first.
-pub fn word(part: &[u8], place: u16) -> u16
+pub fn word(part: &[u8], place: usize) -> u16
     ensures { result ≡ word_at place part.now }
 {
-    let low = usize::from(place);
-    u16::from_le_bytes([byte(part, low), byte(part, low + 1)])
+    let rest = behind(part, place);
+    u16::from_le_bytes([byte(rest, 0), byte(rest, 1)])
 }
 
 // So many bytes from a place on.

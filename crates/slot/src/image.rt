@@ -4,7 +4,11 @@ ghost use Rattle.slot.specs.Calls.{colour_put, record_of, stored_answer, stored_
 ghost use Rattle.slot.specs.Image.{image_of, put_bytes, put_colour, put_flags, put_front, put_marks, put_numbers, put_setting};
 
 use crate::parts::{NO_ADDRESS, WALK_OFF, gear_of};
-use crate::test::{SIZE, is_held};
+use crate::places::{
+    ACTIVE, CHANNEL_LEVELS, CONTROL, FAILURE, FEATURES, GROUPS, IDENTITY, KIND, LEVEL, LIMIT_ERROR,
+    ON, PROFILE, REPORT, SCENES, SETTING_LEN, SETTING_LEVEL, SPARE, STAGED, TYPES,
+};
+use crate::test::{SIZE, Slot, tested};
 use colour::setting::ColourSetting;
 use gear::answer::{Answer, Outcome, Refusal, Reply, done, refused};
 use gear::profile::{Profile, Unit};
@@ -50,7 +54,7 @@ fn types_bytes(unit: Unit) -> [u8; 16]
 fn groups_bytes(groups: [bool; 16]) -> [u8; 16]
     ensures { result ≡ put_flags 16 groups [] }
 {
-    groups.map(|yes| yes as u8)
+    groups.map(u8::from)
 }
 
 // Places 48 to 66.
@@ -59,26 +63,27 @@ fn marks_bytes(gear: Gear) -> [u8; 19]
 {
     let marks = gear.marks;
     [
-        gear.levels.error as u8,
-        marks.reset as u8,
-        marks.cycled as u8,
-        marks.initialise as u8,
-        marks.withdrawn as u8,
-        marks.identifying as u8,
-        marks.writable as u8,
-        marks.pair.is_some() as u8,
-        gear.unit.adjustable as u8,
-        gear.unit.holds as u8,
-        gear.unit.bare as u8,
-        gear.colour.can.tc as u8,
-        gear.colour.can.xy as u8,
-        gear.colour.outside as u8,
-        gear.condition.enabled as u8,
-        gear.condition.lamp.failure as u8,
-        gear.condition.lamp.starting as u8,
-        gear.condition.faults.unstored as u8,
-        gear.condition.faults.holds as u8,
+        gear.levels.error,
+        marks.reset,
+        marks.cycled,
+        marks.initialise,
+        marks.withdrawn,
+        marks.identifying,
+        marks.writable,
+        marks.pair.is_some(),
+        gear.unit.adjustable,
+        gear.unit.holds,
+        gear.unit.bare,
+        gear.colour.can.tc,
+        gear.colour.can.xy,
+        gear.colour.outside,
+        gear.condition.enabled,
+        gear.condition.lamp.failure,
+        gear.condition.lamp.starting,
+        gear.condition.faults.unstored,
+        gear.condition.faults.holds,
     ]
+    .map(u8::from)
 }
 
 // Places 67 to 82.
@@ -89,65 +94,46 @@ fn numbers_bytes(gear: Gear) -> [u8; 16]
     let frame = gear.marks.pair.unwrap_or(0);
     let faults = gear.condition.faults;
     let limits = gear.colour.limits;
-    let [drop_low, drop_high] = faults.drop.to_le_bytes();
-    let [frame_low, frame_high] = frame.to_le_bytes();
-    let [coolest_low, coolest_high] = limits.stored.coolest.to_le_bytes();
-    let [warmest_low, warmest_high] = limits.stored.warmest.to_le_bytes();
-    let [physical_coolest_low, physical_coolest_high] = limits.physical.coolest.to_le_bytes();
-    let [physical_warmest_low, physical_warmest_high] = limits.physical.warmest.to_le_bytes();
-    [
+    let words = [
+        faults.drop,
+        frame,
+        limits.stored.coolest,
+        limits.stored.warmest,
+        limits.physical.coolest,
+        limits.physical.warmest,
+    ]
+    .map(u16::to_le_bytes);
+    let mut bytes = [0; 16];
+    bytes[..4].copy_from_slice(&[
         gear.colour.features,
         gear.settings.curve,
         faults.forced,
         faults.failure,
-        drop_low,
-        drop_high,
-        frame_low,
-        frame_high,
-        coolest_low,
-        coolest_high,
-        warmest_low,
-        warmest_high,
-        physical_coolest_low,
-        physical_coolest_high,
-        physical_warmest_low,
-        physical_warmest_high,
-    ]
+    ]);
+    bytes[4..].copy_from_slice(words.as_flattened());
+    bytes
 }
 
 // x, y and Tc, the channels' levels, the control and the type.
 fn colour_bytes(setting: ColourSetting) -> [u8; 14]
     ensures { result ≡ put_colour setting [] }
 {
-    let [x_low, x_high] = setting.x.to_le_bytes();
-    let [y_low, y_high] = setting.y.to_le_bytes();
-    let [tc_low, tc_high] = setting.tc.to_le_bytes();
-    let [level0, level1, level2, level3, level4, level5] = setting.levels;
-    [
-        x_low,
-        x_high,
-        y_low,
-        y_high,
-        tc_low,
-        tc_high,
-        level0,
-        level1,
-        level2,
-        level3,
-        level4,
-        level5,
-        setting.control,
-        setting.kind,
-    ]
+    let values = [setting.x, setting.y, setting.tc].map(u16::to_le_bytes);
+    let mut bytes = [0; 14];
+    bytes[..CHANNEL_LEVELS].copy_from_slice(values.as_flattened());
+    bytes[CHANNEL_LEVELS..CONTROL].copy_from_slice(&setting.levels);
+    bytes[CONTROL] = setting.control;
+    bytes[KIND] = setting.kind;
+    bytes
 }
 
 // The level behind its colour.
-fn setting_bytes(setting: LevelSetting) -> [u8; 15]
+fn setting_bytes(setting: LevelSetting) -> [u8; SETTING_LEN]
     ensures { result ≡ put_setting setting [] }
 {
-    let mut bytes = [0; 15];
-    bytes[..14].copy_from_slice(&colour_bytes(setting.colour));
-    bytes[14] = setting.level;
+    let mut bytes = [0; SETTING_LEN];
+    bytes[..SETTING_LEVEL].copy_from_slice(&colour_bytes(setting.colour));
+    bytes[SETTING_LEVEL] = setting.level;
     bytes
 }
 
@@ -169,24 +155,23 @@ pub fn put_colour_at(slot: &mut [u8], place: usize, setting: ColourSetting)
     }
 }
 
-pub(crate) fn put_image(slot: &mut [u8], gear: Gear)
-    requires { length slot.old ≡ 512 }
+fn put_image(slot: &mut Slot, gear: Gear)
     ensures { slot.new ≡ image_of gear }
 {
-    put(slot, 0, &front_bytes(gear));
-    put(slot, 16, &types_bytes(gear.unit));
-    put(slot, 32, &groups_bytes(gear.settings.groups));
-    put(slot, 48, &marks_bytes(gear));
-    put(slot, 67, &numbers_bytes(gear));
-    put(slot, 83, &colour_bytes(gear.colour.active.face()));
-    put(slot, 97, &colour_bytes(gear.colour.pending.face()));
-    put(slot, 111, &colour_bytes(gear.colour.report));
-    put(slot, 125, &setting_bytes(gear.settings.on));
-    put(slot, 140, &setting_bytes(gear.settings.failure));
-    put(slot, 155, gear.scenes.map(setting_bytes).as_flattened());
-    put(slot, 395, &gear.banks.identity);
-    put(slot, 424, &gear.banks.profile);
-    put(slot, 441, &[0; 71]);
+    put(slot, LEVEL, &front_bytes(gear));
+    put(slot, TYPES, &types_bytes(gear.unit));
+    put(slot, GROUPS, &groups_bytes(gear.settings.groups));
+    put(slot, LIMIT_ERROR, &marks_bytes(gear));
+    put(slot, FEATURES, &numbers_bytes(gear));
+    put(slot, ACTIVE, &colour_bytes(gear.colour.active.face()));
+    put(slot, STAGED, &colour_bytes(gear.colour.pending.face()));
+    put(slot, REPORT, &colour_bytes(gear.colour.report));
+    put(slot, ON, &setting_bytes(gear.settings.on));
+    put(slot, FAILURE, &setting_bytes(gear.settings.failure));
+    put(slot, SCENES, gear.scenes.map(setting_bytes).as_flattened());
+    put(slot, IDENTITY, &gear.banks.identity);
+    put(slot, PROFILE, &gear.banks.profile);
+    put(slot, SPARE, &[0; SIZE - SPARE]);
 }
 
 // The image of a fit record. A slot of another length is refused, and then a record that is not fit; neither writes anything.
@@ -194,28 +179,21 @@ pub(crate) fn put_image(slot: &mut [u8], gear: Gear)
 pub fn store(slot: &mut [u8], gear: Gear) -> Answer
     ensures { (result ≡ stored_answer slot.old gear) × (slot.new ≡ stored_bytes slot.old gear) }
 {
-    if slot.len() == SIZE {
-        if gear.fit() {
-            put_image(slot, gear);
-            return Ok(Reply::Done);
-        }
+    let slot = slot.as_mut_array().ok_or(Refusal::Length)?;
+    if !gear.fit() {
         return Err(Refusal::Unfit);
     }
-    Err(Refusal::Length)
+    put_image(slot, gear);
+    Ok(Reply::Done)
 }
 
 // The record of an image. Where the slot is refused, it comes with a record that no call accepts.
-#[tactic(auto, unfolding(crate::specs::Calls::record_of))]
+#[tactic(auto, unfolding(crate::specs::Calls::record_of, crate::specs::Calls::tested))]
 pub fn record_of(slot: &[u8]) -> Outcome
     ensures { result ≡ record_of slot.now }
 {
-    if slot.len() == SIZE {
-        if is_held(slot) {
-            return done(gear_of(slot));
-        }
-        let none = Gear::new(Profile::none());
-        return refused(none.gear, Refusal::Unfit);
+    match tested(slot) {
+        Ok(slot) => done(gear_of(slot)),
+        Err(refusal) => refused(Gear::new(Profile::none()).gear, refusal),
     }
-    let none = Gear::new(Profile::none());
-    refused(none.gear, Refusal::Length)
 }

@@ -5,4 +5,5 @@
 pub mod bytes;
 pub mod image;
 pub mod parts;
+pub mod places;
 pub mod test;

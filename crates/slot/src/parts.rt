@@ -1,8 +1,17 @@
 // Parts of a record, as they stand in a slot.
 ghost use Rattle.std.specs.Prelude.{◌≡◌, drop};
-ghost use Rattle.slot.specs.Record.{banks_of, bytes_from, colour_in, colour_of, condition_of, flags_from, gear_of, levels_of, limits_of, marks_of, mode_of, setting_in, settings_in, settings_of, short_of, tint_of, unit_of, walk_of};
+ghost use Rattle.slot.specs.Record.{banks_of, bytes_from, colour_in, colour_of, condition_of, flags_from, gear_of, levels_of, limits_of, marks_of, scene_place, setting_in, settings_in, settings_of, short_of, tint_of, unit_of, walk_of};
 
 use crate::bytes::{behind, byte, bytes_from, flag, word};
+use crate::places::{
+    ACTIVE, ADJUSTABLE, BARE, CAN_TC, CAN_XY, CHANNEL_COUNT, CHANNEL_LEVELS, CONTROL, COOLEST,
+    CURVE, CYCLED, ENABLED, EXTENDED_FADE, FADE_RATE, FADE_TIME, FAILURE, FAULT_DROP,
+    FAULT_FAILURE, FAULT_FORCED, FAULT_HOLDS, FAULT_UNSTORED, FEATURES, FRAME, GROUPS, HOLDS,
+    IDENTIFYING, IDENTITY, INITIALISE, KIND, LAMP_FAILURE, LAMP_STARTING, LAST_LEVEL, LEVEL,
+    LIMIT_ERROR, MAX_LEVEL, MIN_LEVEL, MINIMUM, ON, OUTSIDE, PAIR, PHYSICAL_COOLEST,
+    PHYSICAL_WARMEST, PROFILE, RANDOM, REPORT, RESET_STATE, SCENES, SETTING_LEN, SETTING_LEVEL,
+    SHORT, STAGED, TC, TYPE_COUNT, TYPES, WALK, WARMEST, WITHDRAWN, WRITABLE, X, Y,
+};
 use bank::build::Banks;
 use colour::limits::{Limits, Range};
 use colour::record::{Capabilities, Colour};
@@ -21,6 +30,7 @@ pub(crate) const NO_ADDRESS: u8 = 64;
 
 pub const WALK_OFF: u8 = 17;
 
+// This and the next are `then_some`, each below its own number: one for both would be that, renamed.
 pub fn short_of(number: u8) -> Option<u8>
     ensures { result ≡ short_of number }
 {
@@ -33,27 +43,15 @@ fn walk_of(number: u8) -> Option<u8>
     (number < WALK_OFF).then_some(number)
 }
 
-// The mode of a type byte.
-pub fn mode_of(kind: u8) -> ColorMode
-    ensures { result ≡ mode_of kind }
-{
-    match kind {
-        ColourSetting::XY => ColorMode::Xy,
-        ColourSetting::TC => ColorMode::Cct,
-        ColourSetting::RGBWAF => ColorMode::Rgb,
-        _ => ColorMode::None,
-    }
-}
-
 pub fn levels_of(slot: &[u8]) -> Levels
     ensures { result ≡ levels_of slot.now }
 {
     Levels {
-        level: byte(slot, 0),
-        last: byte(slot, 1),
-        min: byte(slot, 2),
-        max: byte(slot, 3),
-        error: flag(slot, 48),
+        level: byte(slot, LEVEL),
+        last: byte(slot, LAST_LEVEL),
+        min: byte(slot, MIN_LEVEL),
+        max: byte(slot, MAX_LEVEL),
+        error: flag(slot, LIMIT_ERROR),
     }
 }
 
@@ -62,12 +60,12 @@ pub fn limits_of(slot: &[u8]) -> Limits
 {
     Limits {
         stored: Range {
-            coolest: word(slot, 75),
-            warmest: word(slot, 77),
+            coolest: word(slot, COOLEST),
+            warmest: word(slot, WARMEST),
         },
         physical: Range {
-            coolest: word(slot, 79),
-            warmest: word(slot, 81),
+            coolest: word(slot, PHYSICAL_COOLEST),
+            warmest: word(slot, PHYSICAL_WARMEST),
         },
     }
 }
@@ -77,12 +75,12 @@ fn colour_in(part: &[u8]) -> ColourSetting
     ensures { result ≡ colour_in part.now }
 {
     ColourSetting {
-        kind: byte(part, 13),
-        control: byte(part, 12),
-        x: word(part, 0),
-        y: word(part, 2),
-        tc: word(part, 4),
-        levels: bytes_from(part, 6),
+        kind: byte(part, KIND),
+        control: byte(part, CONTROL),
+        x: word(part, X),
+        y: word(part, Y),
+        tc: word(part, TC),
+        levels: bytes_from(part, CHANNEL_LEVELS),
     }
 }
 
@@ -99,7 +97,7 @@ fn tint_in(part: &[u8]) -> Tint
         levels,
     } = colour_in(part);
     Tint {
-        mode: mode_of(kind),
+        mode: ColorMode::from(kind),
         x,
         y,
         tc,
@@ -114,7 +112,7 @@ fn setting_in(part: &[u8]) -> LevelSetting
 {
     LevelSetting {
         colour: colour_in(part),
-        level: byte(part, 14),
+        level: byte(part, SETTING_LEVEL),
     }
 }
 
@@ -140,14 +138,14 @@ pub fn unit_of(slot: &[u8]) -> Unit
     ensures { result ≡ unit_of slot.now }
 {
     Unit {
-        short: short_of(byte(slot, 6)),
-        random: u32::from_le_bytes(bytes_from(slot, 8)),
-        types: bytes_from(slot, 16),
-        count: byte(slot, 7),
-        adjustable: flag(slot, 56),
-        holds: flag(slot, 57),
-        bare: flag(slot, 58),
-        minimum: byte(slot, 4),
+        short: short_of(byte(slot, SHORT)),
+        random: u32::from_le_bytes(bytes_from(slot, RANDOM)),
+        types: bytes_from(slot, TYPES),
+        count: byte(slot, TYPE_COUNT),
+        adjustable: flag(slot, ADJUSTABLE),
+        holds: flag(slot, HOLDS),
+        bare: flag(slot, BARE),
+        minimum: byte(slot, MINIMUM),
     }
 }
 
@@ -155,14 +153,14 @@ pub fn marks_of(slot: &[u8]) -> Marks
     ensures { result ≡ marks_of slot.now }
 {
     Marks {
-        walk: walk_of(byte(slot, 5)),
-        pair: flag(slot, 55).then_some(word(slot, 73)),
-        reset: flag(slot, 49),
-        cycled: flag(slot, 50),
-        initialise: flag(slot, 51),
-        withdrawn: flag(slot, 52),
-        identifying: flag(slot, 53),
-        writable: flag(slot, 54),
+        walk: walk_of(byte(slot, WALK)),
+        pair: flag(slot, PAIR).then_some(word(slot, FRAME)),
+        reset: flag(slot, RESET_STATE),
+        cycled: flag(slot, CYCLED),
+        initialise: flag(slot, INITIALISE),
+        withdrawn: flag(slot, WITHDRAWN),
+        identifying: flag(slot, IDENTIFYING),
+        writable: flag(slot, WRITABLE),
     }
 }
 
@@ -171,16 +169,16 @@ pub fn colour_of(slot: &[u8]) -> Colour
 {
     Colour {
         can: Capabilities {
-            tc: flag(slot, 59),
-            xy: flag(slot, 60),
-            channels: byte(slot, 12),
+            tc: flag(slot, CAN_TC),
+            xy: flag(slot, CAN_XY),
+            channels: byte(slot, CHANNEL_COUNT),
         },
         limits: limits_of(slot),
-        active: tint_at(slot, 83),
-        outside: flag(slot, 61),
-        pending: tint_at(slot, 97),
-        report: colour_at(slot, 111),
-        features: byte(slot, 67),
+        active: tint_at(slot, ACTIVE),
+        outside: flag(slot, OUTSIDE),
+        pending: tint_at(slot, STAGED),
+        report: colour_at(slot, REPORT),
+        features: byte(slot, FEATURES),
     }
 }
 
@@ -188,17 +186,17 @@ pub fn condition_of(slot: &[u8]) -> Condition
     ensures { result ≡ condition_of slot.now }
 {
     Condition {
-        enabled: flag(slot, 62),
+        enabled: flag(slot, ENABLED),
         lamp: Lamp {
-            failure: flag(slot, 63),
-            starting: flag(slot, 64),
+            failure: flag(slot, LAMP_FAILURE),
+            starting: flag(slot, LAMP_STARTING),
         },
         faults: Faults {
-            drop: word(slot, 71),
-            forced: byte(slot, 69),
-            failure: byte(slot, 70),
-            unstored: flag(slot, 65),
-            holds: flag(slot, 66),
+            drop: word(slot, FAULT_DROP),
+            forced: byte(slot, FAULT_FORCED),
+            failure: byte(slot, FAULT_FAILURE),
+            unstored: flag(slot, FAULT_UNSTORED),
+            holds: flag(slot, FAULT_HOLDS),
         },
     }
 }
@@ -207,37 +205,50 @@ fn banks_of(slot: &[u8]) -> Banks
     ensures { result ≡ banks_of slot.now }
 {
     Banks {
-        identity: bytes_from(slot, 395),
-        profile: bytes_from(slot, 424),
+        identity: bytes_from(slot, IDENTITY),
+        profile: bytes_from(slot, PROFILE),
     }
 }
 
 pub fn groups_of(slot: &[u8]) -> [bool; 16]
     ensures { result ≡ flags_from 16 32 slot.now }
 {
-    array::from_fn(|i| flag(slot, 32 + i))
+    array::from_fn(|i| flag(slot, GROUPS + i))
+}
+
+pub fn fades_of(slot: &[u8]) -> Fades
+    ensures { result ≡ (settings_of slot.now).fades }
+{
+    Fades {
+        time: byte(slot, FADE_TIME),
+        rate: byte(slot, FADE_RATE),
+        extended: byte(slot, EXTENDED_FADE),
+    }
 }
 
 fn settings_of(slot: &[u8]) -> Settings
     ensures { result ≡ settings_of slot.now }
 {
     Settings {
-        on: setting_at(slot, 125),
-        failure: setting_at(slot, 140),
-        fades: Fades {
-            time: byte(slot, 13),
-            rate: byte(slot, 14),
-            extended: byte(slot, 15),
-        },
+        on: setting_at(slot, ON),
+        failure: setting_at(slot, FAILURE),
+        fades: fades_of(slot),
         groups: groups_of(slot),
-        curve: byte(slot, 68),
+        curve: byte(slot, CURVE),
     }
+}
+
+// Where a scene stands: a colour and its level, behind those for system failure.
+pub fn scene_place(scene: u8) -> usize
+    ensures { result ≡ scene_place scene }
+{
+    SCENES + SETTING_LEN * usize::from(scene)
 }
 
 fn scenes_of(slot: &[u8]) -> [LevelSetting; 16]
     ensures { result ≡ settings_in 16 (drop 155 slot.now) }
 {
-    array::from_fn(|i| setting_at(slot, 155 + 15 * i))
+    array::from_fn(|i| setting_at(slot, SCENES + SETTING_LEN * i))
 }
 
 // The record that the bytes say.

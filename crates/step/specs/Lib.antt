@@ -1,1 +1,3 @@
+pub mod Kinds
+pub mod Slot
 pub mod Step

@@ -4,7 +4,7 @@ use Rattle.calls.specs.Colours.{activate_call, color_value_call, copy_report_cal
 use Rattle.calls.specs.Memory.{memory_location_call, write_memory_call}
 use Rattle.calls.specs.Power.{power_cycle_call}
 use Rattle.colour.specs.declared.setting.ColourSetting.{ColourSetting}
-use Rattle.gear.specs.Answer.{Answer, refused}
+use Rattle.gear.specs.Answer.{refused, unchanged}
 use Rattle.gear.specs.declared.answer.Outcome.{Outcome}
 use Rattle.gear.specs.declared.answer.Refusal.TheVariants.{Byte}
 use Rattle.gear.specs.Command.{command_of}
@@ -24,9 +24,6 @@ command_at kind byte = pick (eqb kind 0) (Some (Arc (DirectArcPower byte))) (com
 -- high byte first
 abbrev pub pair : ℕ → ℕ → ℕ
 pair high low = high * 256 + low
-
-abbrev pub unchanged : Gear → Answer → Outcome
-unchanged g a = record { answer = a; gear = g }
 
 -- a colour temperature to be staged; the other numbers of such a setting are not looked at
 unfoldable pub temperature : ℕ → ColourSetting

@@ -6,4 +6,4 @@ use Rattle.engine.proofs.activation.activate_channels.Goals as goal
 
 pub returns : goal.returns
 unfolding image_of activate activated strays
-returns c = λ g h m. rw (c.chosen.ensures, c.copy_within.ensures.after, h.0, m) (refl, (h.1.0, h.1.1, (h.1.2.1, h.1.2.1, h.1.2.2), h.1.3, h.1.4, h.1.5))
+returns c = λ g h m. rw (c.unstage.ensures, c.chosen.ensures, c.copy_within.ensures.after, h.0, m) (refl, (h.1.0, h.1.1, (h.1.2.1, h.1.2.1, h.1.2.2), h.1.3, h.1.4, h.1.5))

@@ -3,6 +3,7 @@ use mathlib.Core.Path.{◌≡◌, refl, ◌∙◌}
 use Rattle.colour.specs.Activation.{activate, activated, strays}
 use Rattle.slot.specs.Image.{image_of}
 use Rattle.engine.proofs.Blocks.{staged_tc}
+use Rattle.slot.proofs.Puts.{flag_stored}
 use Rattle.slot.proofs.Read.{part}
 use Rattle.slot.specs.Record.{gear_of}
 use Rattle.engine.proofs.activation.activate_tc.Goals as goal
@@ -14,4 +15,4 @@ returns c =
     let b = c.args.slot.now in
     let limits : c.limits_of-limits.result ≡ g.colour.limits = c.limits_of-limits.ensures ∙ part b g h (λ x. x.colour.limits) in
     let staged : c.word-staged.result ≡ g.colour.pending.tc = c.word-staged.ensures ∙ staged_tc b g h in
-    rw (c.unlinked.ensures, c.put_word.ensures, c.flag_byte.ensures, c.hold-tc.ensures, limits, staged, h.0, m) (refl, h.1)
+    rw (c.unstage.ensures, c.unlinked.ensures, c.put_word.ensures, c.from.ensures, flag_stored, c.hold-tc.ensures, limits, staged, h.0, m) (refl, h.1)

@@ -6,4 +6,4 @@ use Rattle.engine.proofs.activation.activate_xy.Goals as goal
 
 pub returns : goal.returns
 unfolding image_of activate activated strays
-returns c = λ g h m. rw (c.unlinked.ensures, c.copy_within.ensures.after, h.0, m) (refl, h.1)
+returns c = λ g h m. rw (c.unstage.ensures, c.unlinked.ensures, c.copy_within.ensures.after, h.0, m) (refl, h.1)

@@ -1,4 +1,4 @@
--- `address::judged` meets its contract: at each return the tests that led there decide the cases of `judged`.
+-- `address::judged` meets its contract: a gear that is not enabled is addressed by nothing.
 use Prim.Native.Nat.{ℕ}
 use mathlib.Core.Path.{◌≡◌, ap, sym, ◌∙◌}
 use mathlib.Core.Bool.{Bool, true, false}
@@ -9,6 +9,7 @@ use Rattle.gear.specs.Answer.{flag}
 use Rattle.numbers.specs.Numbers.{pick}
 use Rattle.slot.specs.Record.{flag_at, gear_of}
 use Rattle.engine.proofs.address.judged.Goals as goal
+use Rattle.engine.proofs.address.judged.Goals.{then-flag, else-flag}
 
 -- whether the gear is enabled
 matching-read :
@@ -16,18 +17,15 @@ matching-read :
 unfolding matching gear_of
 matching-read b a on e = ap (λ (yes : Bool). flag (pick yes (addressed (gear_of b) a) false)) e
 
-pub returns-then-is_group_beyond : goal.returns-then-is_group_beyond
-unfolding judged
-returns-then-is_group_beyond c = rw (← c.is_group_beyond.ensures, c.if-is_group_beyond.true)
-
-pub returns-then-flag : goal.returns-then-flag
-unfolding judged
-returns-then-flag c =
-    rw (← c.is_group_beyond.ensures, c.if-is_group_beyond.false)
-    (c.flag-then-flag.ensures ∙ ap flag c.is_addressed.ensures ∙ matching-read c.args.slot.now c.args.address true (sym c.if-flag.true ∙ c.flag.ensures))
-
 pub returns : goal.returns
 unfolding judged
 returns c =
-    rw (← c.is_group_beyond.ensures, c.if-is_group_beyond.false)
-    (c.flag-2.ensures ∙ matching-read c.args.slot.now c.args.address false (sym c.if-flag.false ∙ c.flag.ensures))
+    let b = c.args.slot.now in
+    let a = c.args.address in
+    let told : flag c.if-flag.flag ≡ matching (gear_of b) a =
+    elim c.if-flag.branch [
+      | then-flag w ↦ ap flag (w.flag-is ∙ w.is_addressed.ensures) ∙ matching-read b a true (sym w.if-flag.true ∙ c.flag.ensures)
+      | else-flag w ↦ ap flag (w.flag-is ∙ w.if-flag.false) ∙ matching-read b a false (sym w.if-flag.false ∙ c.flag.ensures)
+    ]
+    in
+    rw (← c.is_group_beyond.ensures, c.if-is_group_beyond.false) (c.flag-2.ensures ∙ told)

@@ -5,4 +5,4 @@ use Rattle.engine.proofs.colours.activate_pending_color.Goals as goal
 
 pub returns : goal.returns
 unfolding activate_call recoloured
-returns c = c.serve.ensures _ (λ a l k. search rules)
+returns c = c.change.ensures _ (λ l k. search rules)

@@ -5,4 +5,4 @@ use Rattle.engine.proofs.colours.copy_report_to_temporary.Goals as goal
 
 pub returns : goal.returns
 unfolding copy_report_call recoloured
-returns c = c.serve.ensures _ (λ a l k. search rules)
+returns c = c.change.ensures _ (λ l k. search rules)

@@ -5,4 +5,4 @@ use Rattle.engine.proofs.colours.load_temporaries_from.Goals as goal
 
 pub returns : goal.returns
 unfolding stage_call recoloured
-returns c = c.serve.ensures _ (λ a l k. search rules)
+returns c = c.change.ensures _ (λ l k. search rules)

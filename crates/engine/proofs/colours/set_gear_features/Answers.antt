@@ -10,8 +10,8 @@ use Rattle.engine.proofs.colours.set_gear_features.Goals as goal
 pub returns : goal.returns
 unfolding set_features_call recoloured with_features image_of
 returns c =
-    c.serve.ensures _
-    (λ a l k.
+    c.change.ensures _
+    (λ l k.
     let b = c.args.slot.now in
     let put : l ≡ set b 67 c.args.features = search rules in
-    record { does = λ g h. (rw (put, h.0), h.1); tells = λ g h. search rules })
+    λ g h. (rw (put, h.0), h.1))

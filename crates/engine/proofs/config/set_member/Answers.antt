@@ -2,8 +2,12 @@
 use borrow.Author.Tests.{lt-leb}
 use Rattle.gear.specs.Scene.{stored}
 use Rattle.slot.proofs.Indexed.{group_stored}
+use Rattle.slot.proofs.Puts.{flag_stored}
 use Rattle.engine.proofs.config.set_member.Goals as goal
 
-pub returns : goal.returns
+pub returns-then-group-lt16 : goal.returns-then-group-lt16
 unfolding stored
-returns c = λ g h. rw (lt-leb _ _ c.if-group-ge16.false, c.flag_byte.ensures) (group_stored c.args.slot.now g h c.args.group c.args.member c.if-group-ge16.false)
+returns-then-group-lt16 c =
+    λ g h.
+    let low = c.if-group-lt16.true in
+    rw (lt-leb _ _ low, c.from-then-group-lt16.ensures, c.from.ensures, flag_stored) (group_stored c.args.slot.now g h c.args.group c.args.member low)

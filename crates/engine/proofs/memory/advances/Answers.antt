@@ -6,17 +6,17 @@ use Rattle.slot.proofs.Read.{part}
 use Rattle.slot.specs.Record.{gear_of}
 use Rattle.engine.proofs.memory.advances.Goals as goal
 
-pub returns-then-flag : goal.returns-then-flag
+pub returns-else-not-flag : goal.returns-else-not-flag
 unfolding advances_dtr0_past gear_of
-returns-then-flag c =
+returns-else-not-flag c =
     λ g h.
     let held = part c.args.slot.now g h (λ x. x.unit.holds) in
-    let tested = sym c.flag.ensures ∙ c.if-flag.true in
+    let tested = sym c.flag.ensures ∙ c.if-not-flag.false in
     rw (← c.implements_bank.ensures, c.if-implements_bank.true, ← held, tested) (c.is_some.ensures ∙ ap is_some (c.found.ensures g h))
 
-pub returns-then-implements_bank : goal.returns-then-implements_bank
+pub returns-then-not-flag : goal.returns-then-not-flag
 unfolding advances_dtr0_past gear_of
-returns-then-implements_bank c =
+returns-then-not-flag c =
     λ g h.
     let held = part c.args.slot.now g h (λ x. x.unit.holds) in
-    rw (← c.implements_bank.ensures, c.if-implements_bank.true, ← held, ← c.flag.ensures, c.if-flag.false)
+    rw (← c.implements_bank.ensures, c.if-implements_bank.true, ← held, ← c.flag.ensures, c.if-not-flag.true)

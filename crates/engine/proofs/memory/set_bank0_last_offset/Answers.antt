@@ -11,8 +11,8 @@ use Rattle.engine.proofs.memory.set_bank0_last_offset.Goals as goal
 pub returns : goal.returns
 unfolding set_last_call rebanked set_bank0_last_offset
 returns c =
-    c.serve.ensures _
-    (λ a l k.
+    c.change.ensures _
+    (λ l k.
     let b = c.args.slot.now in
     let put : l ≡ set b 395 c.args.last = search rules in
-    record { does = λ g h. rw put (identity_stored b g h 0 c.args.last (omega arith)); tells = λ g h. search rules })
+    λ g h. rw put (identity_stored b g h 0 c.args.last (omega arith)))

@@ -5,4 +5,4 @@ use Rattle.engine.proofs.memory.set_bank1_location.Goals as goal
 
 pub returns : goal.returns
 unfolding set_location_call rebanked
-returns c = c.serve.ensures _ (λ a l k. search rules)
+returns c = c.change.ensures _ (λ l k. search rules)

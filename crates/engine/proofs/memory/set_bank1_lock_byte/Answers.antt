@@ -7,4 +7,4 @@ use Rattle.engine.proofs.memory.set_bank1_lock_byte.Goals as goal
 
 pub returns : goal.returns
 unfolding set_lock_call rebanked set_bank1_lock_byte set_bank1_location store_profile
-returns c = c.serve.ensures _ (λ a l k. search rules)
+returns c = c.change.ensures _ (λ l k. search rules)

@@ -12,8 +12,8 @@ use Rattle.engine.proofs.memory.set_logical_gear_unit.Goals as goal
 pub returns : goal.returns
 unfolding set_unit_call rebanked set_logical_gear_unit
 returns c =
-    c.serve.ensures _
-    (λ a l k.
+    c.change.ensures _
+    (λ l k.
     let b = c.args.slot.now in
     let put : l ≡ set (set b 420 c.args.units) 421 c.args.index = search rules in
-    record { does = λ g h. rw put (identity_row (c.args.units ∷ c.args.index ∷ []) b g 25 h (omega arith)); tells = λ g h. search rules })
+    λ g h. rw put (identity_row (c.args.units ∷ c.args.index ∷ []) b g 25 h (omega arith)))

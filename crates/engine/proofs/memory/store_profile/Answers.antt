@@ -5,8 +5,8 @@ use Rattle.bank.specs.Setters.{set_bank1_location}
 use Rattle.slot.proofs.Indexed.{profile_stored}
 use Rattle.engine.proofs.memory.store_profile.Goals as goal
 
-pub returns : goal.returns
+pub returns-then-offset-lt-PROFILE_LEN : goal.returns-then-offset-lt-PROFILE_LEN
 unfolding set_bank1_location store_profile
-returns c =
+returns-then-offset-lt-PROFILE_LEN c =
     λ g h.
-    rw (lt-leb _ _ c.if-offset-ge-PROFILE_LEN.false) (profile_stored c.args.slot.now g h c.args.offset c.args.value c.if-offset-ge-PROFILE_LEN.false)
+    rw (lt-leb _ _ c.if-offset-lt-PROFILE_LEN.true, c.from.ensures) (profile_stored c.args.slot.now g h c.args.offset c.args.value c.if-offset-lt-PROFILE_LEN.true)

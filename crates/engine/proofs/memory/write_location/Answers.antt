@@ -7,40 +7,44 @@ use Rattle.gear.specs.Answer.{location_answer}
 use Rattle.slot.proofs.Read.{part}
 use Rattle.slot.specs.Record.{gear_of}
 use Rattle.engine.proofs.memory.write_location.Goals as goal
+use Rattle.engine.proofs.memory.write_location.Goals.{then-not-flag, else-not-flag}
 
-pub returns-then-flag : goal.returns-then-flag
-unfolding write_location write_memory_location stored location_answer gear_of
-returns-then-flag c =
-    let b = c.args.slot.now in
-    let v = c.args in
+pub returns-then-not-is_writable : goal.returns-then-not-is_writable
+unfolding write_location write_memory_location location_answer
+returns-then-not-is_writable c =
     let can = c.is_writable.ensures in
-    let yes = c.if-is_writable.true in
-    let lost = sym c.flag.ensures ∙ c.if-flag.true in
-    record {
-      does =
-          λ g h.
-          let next : (write_location g v.bank v.offset v.value).gear.banks.profile ≡ g.banks.profile =
-          rw (← can g h, yes, ← part b g h (λ x. x.condition.faults.unstored), lost)
-          in
-          rw next (h);
-      tells = λ g h. rw (← can g h, yes);
-    }
+    let no = c.if-not-is_writable.true in
+    record { does = λ g h. rw (← can g h, no) h; tells = λ g h. rw (← can g h, no) }
 
-pub returns-then-is_writable : goal.returns-then-is_writable
+pub returns : goal.returns
 unfolding write_location write_memory_location stored set_bank1_location location_answer gear_of
-returns-then-is_writable c =
+returns c =
     let b = c.args.slot.now in
     let v = c.args in
     let can = c.is_writable.ensures in
-    let yes = c.if-is_writable.true in
-    let lost = sym c.flag.ensures ∙ c.if-flag.false in
-    record {
-      does =
-          λ g h.
-          let to = store_profile g.banks.profile v.offset v.value in
-          let next : (write_location g v.bank v.offset v.value).gear.banks.profile ≡ to =
-          rw (← can g h, yes, ← part b g h (λ x. x.condition.faults.unstored), lost)
-          in
-          rw next (c.store_profile.ensures g h);
-      tells = λ g h. rw (← can g h, yes);
-    }
+    let yes = c.if-not-is_writable.false in
+    elim c.if-not-flag.branch [
+      | then-not-flag w ↦
+          let kept = sym c.flag.ensures ∙ w.if-not-flag.true in
+          record {
+            does =
+                λ g h.
+                let to = store_profile g.banks.profile v.offset v.value in
+                let next : (write_location g v.bank v.offset v.value).gear.banks.profile ≡ to =
+                rw (← can g h, yes, ← part b g h (λ x. x.condition.faults.unstored), kept)
+                in
+                rw (w.slot-is, next) (w.store_profile.ensures g h);
+            tells = λ g h. rw (← can g h, yes, c.from.ensures);
+          }
+      | else-not-flag w ↦
+          let lost = sym c.flag.ensures ∙ w.if-not-flag.false in
+          record {
+            does =
+                λ g h.
+                let next : (write_location g v.bank v.offset v.value).gear.banks.profile ≡ g.banks.profile =
+                rw (← can g h, yes, ← part b g h (λ x. x.condition.faults.unstored), lost)
+                in
+                rw (w.slot-is, next) h;
+            tells = λ g h. rw (← can g h, yes, c.from.ensures);
+          }
+    ]

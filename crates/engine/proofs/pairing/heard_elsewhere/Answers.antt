@@ -14,7 +14,7 @@ returns c =
     record {
       does =
           λ g h.
-          c.close.ensures (with_marks g (with_walk g.marks None))
+          c.put_pair.ensures (with_marks g (with_walk g.marks None))
           (rw h.0, (h.1.0, refl, h.1.2, h.1.3, h.1.4, h.1.5));
       tells = λ g h. rw (c.flag-answer.ensures, c.is_some.ensures, is_open_is, c.pair.ensures g h);
     }

@@ -5,4 +5,4 @@ use Rattle.engine.proofs.power.power_cycle.Goals as goal
 
 pub returns : goal.returns
 unfolding power_cycle_call
-returns c = c.serve.ensures _ (λ a l k. search rules)
+returns c = c.change.ensures _ (λ l k. search rules)

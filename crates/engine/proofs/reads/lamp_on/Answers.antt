@@ -1,8 +1,9 @@
 -- `reads::lamp_on` meets its contract: what is read off the bytes is the rule's answer.
+use Rattle.std.proofs.Common.{rules}
 use Rattle.calls.specs.Reads.{lamp_on_call}
 use Rattle.slot.specs.Record.{gear_of}
 use Rattle.engine.proofs.reads.lamp_on.Goals as goal
 
 pub returns : goal.returns
 unfolding lamp_on_call gear_of
-returns c = c.tell.ensures _ (λ a k h. cc)
+returns c = c.tell.ensures _ (λ a k h. rw (← k.2) (search rules))

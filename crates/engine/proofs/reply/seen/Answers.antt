@@ -17,10 +17,9 @@ returns c =
       marks = c.marks_of.ensures i;
       on = sym (get_or-drop 125 b 14 0) i;
       failure = sym (get_or-drop 140 b 14 0) i;
-      fades = record { time = at 13 b; rate = at 14 b; extended = at 15 b };
+      fades = c.fades_of.ensures i;
       groups = c.groups_of.ensures i;
       scene = (ap (λ (k : ℕ). at (k + 14) b) c.scene_place.ensures ∙ scene_level c.args.byte b) i;
-      lamp = (c.condition_of-condition.ensures i).lamp;
-      faults = (c.condition_of-condition.ensures i).faults;
+      condition = c.condition_of.ensures i;
       active = c.tint_at.ensures i;
     }

@@ -9,5 +9,5 @@ pub returns : goal.returns
 unfolding image_of factory colour_put
 returns c =
     λ g h.
-    rw (c.put_colour_at-2.ensures, c.put_colour_at.ensures, c.fill.ensures.after (λ y e. e), c.factory_colour-colour.ensures g h, h.0)
+    rw (c.put_setting-2.ensures, c.put_setting.ensures, c.fill.ensures.after (λ y e. e), c.factory_colour.ensures g h, h.0)
     (refl, (h.1.0, h.1.1, h.1.2, (refl, refl, refl), h.1.4, h.1.5))

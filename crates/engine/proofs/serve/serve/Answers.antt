@@ -1,41 +1,24 @@
--- `serve::serve` meets its contract: the two refusals, and the call on the image of a fit record.
+-- `serve::serve` meets its contract: the refusals, and the call on the image of a fit record.
 use Prim.Native.Nat.{ℕ}
-use mathlib.Core.Bool.{true, false}
-use mathlib.Core.Path.{◌≡◌, refl}
-use lib.ListN.{get_or, length}
+use mathlib.Core.Path.{◌≡◌}
+use lib.ListN.{get_or}
 use mir.Syntax.{w8}
 use mir.Val.{Fits}
 use Rattle.std.proofs.Common.{rules}
 use Rattle.std.specs.declared.result.Result.TheVariants.{Err}
-use Rattle.engine.proofs.Serving.{by_works, not_held, other_length, served}
-use Rattle.gear.specs.declared.answer.Refusal.TheVariants.{Length}
-use Rattle.slot.specs.Held.{heldb}
+use Rattle.engine.proofs.Serving.{by_works, lent_slot, not_lent, served}
 use Rattle.engine.proofs.serve.serve.Goals as goal
 
-pub returns-in_err-slot : goal.returns-in_err-slot
-returns-in_err-slot g c =
+pub returns-in_err-run : goal.returns-in_err-run
+returns-in_err-run g c =
     λ rule works.
-    let b = c.args.slot.now in
-    let other : length b ≡ 512 → ⊥ = search rules in
-    let refused : c.from_residual.result ≡ Err Length = search rules in
-    rw refused (other_length _ b other)
-
-pub returns-then-not-is_held : goal.returns-then-not-is_held
-returns-then-not-is_held g c =
-    λ rule works.
-    let b = c.args.slot.now in
-    let same : c.in_ok-slot.slot.now ≡ b = search rules in
-    let len : length b ≡ 512 = search rules in
-    let held : heldb b ≡ false = cc in
-    rw same (not_held _ b len held)
+    let refused : c.from_residual.result ≡ Err c.in_err-run.field-0.0 = search rules in
+    rw (refused, c.in_err-run.ensures.1) (not_lent _ c.args.slot.now _ c.in_err-run.ensures.0)
 
 pub returns : goal.returns
 returns g c =
     λ rule works.
     let b = c.args.slot.now in
-    let same : c.in_ok-slot.slot.now ≡ b = search rules in
-    let len : length b ≡ 512 = search rules in
     let fits : (i : ℕ) → Fits w8 (get_or b i 0) = search rules in
-    let held : heldb b ≡ true = cc in
-    let done = works _ _ (record { shown = c.in_ok-slot.slot; shows = same; left = _; met = c.call.ensures; leaves = refl }) in
-    served b len fits held _ _ _ (by_works rule b _ _ done)
+    let lent = lent_slot b b c.in_ok-run.ensures.0 in
+    served b lent.long fits lent.held _ _ _ (by_works rule b _ _ (works _ _ c.in_ok-run.ensures.1))

@@ -10,8 +10,8 @@ use Rattle.engine.proofs.setters.set_faults.Goals as goal
 pub returns : goal.returns
 unfolding set_faults_call image_of
 returns c =
-    c.serve.ensures _
-    (λ a l k.
+    c.change.ensures _
+    (λ l k.
     let b = c.args.slot.now in
     let put : l ≡ set (set (set (set (set (set b 65 (flag_byte c.args.faults.unstored)) 66 (flag_byte c.args.faults.holds)) 69 c.args.faults.forced) 70 c.args.faults.failure) 71 (c.args.faults.drop % 256)) 72 (c.args.faults.drop / 256) = search rules in
-    record { does = λ g h. (rw (put, h.0), h.1); tells = λ g h. search rules })
+    λ g h. (rw (put, h.0), h.1))

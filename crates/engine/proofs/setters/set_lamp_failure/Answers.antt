@@ -9,8 +9,8 @@ use Rattle.engine.proofs.setters.set_lamp_failure.Goals as goal
 pub returns : goal.returns
 unfolding set_lamp_failure_call image_of
 returns c =
-    c.serve.ensures _
-    (λ a l k.
+    c.change.ensures _
+    (λ l k.
     let b = c.args.slot.now in
     let put : l ≡ set b 63 (flag_byte c.args.failure) = search rules in
-    record { does = λ g h. (rw (put, h.0), h.1); tells = λ g h. search rules })
+    λ g h. (rw (put, h.0), h.1))

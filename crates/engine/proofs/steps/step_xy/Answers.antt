@@ -1,19 +1,27 @@
 -- `steps::step_xy` meets its contract: another mode has nothing to step, and one axis moves.
-use mathlib.Core.Path.{◌≡◌, refl, ◌∙◌}
-use borrow.Author.Tests.{eq-eqb, ne_eqb}
+use mathlib.Core.Path.{◌≡◌, refl, ap, ◌∙◌}
+use mathlib.Core.Bool.{not}
 use Rattle.colour.specs.Steps.{moved, xy_step}
-use Rattle.engine.proofs.Blocks.{active_xy, active_y}
+use Rattle.engine.proofs.Blocks.{active_x, xy_told, active_y}
 use Rattle.slot.specs.Image.{image_of}
 use Rattle.engine.proofs.steps.step_xy.Goals as goal
+use Rattle.engine.proofs.steps.step_xy.Goals.{then-y_axis, else-y_axis}
 
-pub returns-then-slot-ne-XY : goal.returns-then-slot-ne-XY
+pub returns-then-ne : goal.returns-then-ne
 unfolding xy_step
-returns-then-slot-ne-XY c = λ g h. rw (active_xy c.args.slot.now g h ∙ ne_eqb _ _ c.if-slot-ne-XY.true) h
+returns-then-ne c = λ g h. rw (xy_told c.args.slot.now g h _ _ c.from.ensures c.ne.ensures ∙ ap not c.if-ne.true) h
 
-pub returns-then-y_axis : goal.returns-then-y_axis
+pub returns : goal.returns
 unfolding image_of xy_step moved
-returns-then-y_axis c =
+returns c =
     λ g h.
     let b = c.args.slot.now in
-    let at : c.word.result ≡ g.colour.active.y = c.word.ensures ∙ active_y b g h in
-    rw (active_xy b g h ∙ eq-eqb _ _ c.if-slot-ne-XY.false, c.if-y_axis.true, c.put_word.ensures, c.stepped_xy-y.ensures, at, h.0) (refl, h.1)
+    let mode = xy_told b g h _ _ c.from.ensures c.ne.ensures ∙ ap not c.if-ne.false in
+    elim c.if-y_axis.branch [
+      | then-y_axis w ↦
+          let at : c.word.result ≡ g.colour.active.y = rw w.axis-is at c.word.ensures ∙ active_y b g h in
+          rw (mode, w.if-y_axis.true, c.put_word.ensures, w.axis-is, c.stepped_xy-moved.ensures, at, h.0) (refl, h.1)
+      | else-y_axis w ↦
+          let at : c.word.result ≡ g.colour.active.x = rw w.axis-is at c.word.ensures ∙ active_x b g h in
+          rw (mode, w.if-y_axis.false, c.put_word.ensures, w.axis-is, c.stepped_xy-moved.ensures, at, h.0) (refl, h.1)
+    ]

@@ -14,7 +14,7 @@ returns c =
     let b = c.args.slot.now in
     let limits : c.limits_of.result ≡ g.colour.limits = c.limits_of.ensures ∙ part b g h (λ x. x.colour.limits) in
     let tc : c.word.result ≡ g.colour.active.tc = c.word.ensures ∙ active_tc b g h in
-    let mode : c.mode_of.result ≡ g.colour.active.mode = c.mode_of.ensures ∙ sym (active_mode b g h) in
+    let mode : c.from.result ≡ g.colour.active.mode = c.from.ensures ∙ sym (active_mode b g h) in
     let outside : c.flag.result ≡ g.colour.outside = c.flag.ensures ∙ part b g h (λ x. x.colour.outside) in
     let stored = c.store.ensures ∙ (λ i. store_bounded (record { limits = limits i; tc = tc i; mode = mode i; outside = outside i }) c.args.value c.args.selector) in
     same_colour _ g _ _ (ap (put_back g.colour) stored ∙ store_put_back g.colour c.args.value c.args.selector) (c.put_bounded.ensures g h)

@@ -5,4 +5,4 @@ use Rattle.engine.proofs.write.direct_arc_power.Goals as goal
 
 pub returns : goal.returns
 unfolding direct_arc_power
-returns c = c.serve.ensures _ (λ a l k. search rules)
+returns c = c.change.ensures _ (λ l k. search rules)

@@ -8,5 +8,5 @@ use Rattle.query.proofs.reply.query.Goals as goal
 pub returns : goal.returns
 returns c =
     let args = c.args in
-    simp (c.query_answer.ensures, c.seen.ensures, c.reported.ensures, c.walked.ensures)
+    simp (c.query_answer.ensures, c.of.ensures, c.scene_at-scene.ensures, c.reported.ensures, c.walked.ensures)
     (ap₂ (λ (a : Answer) (x : Gear). record { answer = a; gear = x }) (sym (query_tells args.gear args.byte)) (sym (query_walks args.gear args.byte)))

@@ -1,50 +1,39 @@
 -- `run::put_lines` meets its contract: the steps run on the record of the profile, and the last line stands behind theirs.
+use mathlib.Core.Path.{ap}
 use native.Mathlib.Omega.{arith}
-use mathlib.Core.Path.{◌≡◌, ap, ◌∙◌}
+use Prim.Native.Nat.{◌<◌}
 use lib.ListN.{length}
-use Rattle.gear.specs.declared.answer.Outcome.{Outcome}
-use Rattle.gear.specs.Record.{new_gear}
-use Rattle.runner.specs.Run.{first_of}
-use Rattle.runner.proofs.First.{good_fit}
+use Rattle.std.proofs.Common.{rules}
+use Rattle.file.specs.File.{steps_of}
+use Rattle.runner.specs.Line.{Wrote}
+use Rattle.runner.specs.Run.{count_of, first_of, text_after}
 use Rattle.runner.proofs.Whole.{count_most, room_is, end_room, end_more}
 use Rattle.runner.proofs.run.put_lines.Goals as goal
+use Rattle.runner.proofs.run.put_lines.Goals.{After-follow-at}
 
-pub follow-finished-requires : goal.follow-finished-requires
-follow-finished-requires c =
-    let made = c in
-    let start = made in
-    let same = ap length c.steps-steps.ensures in
-    let s = start.args.file.now in
-    let first : made.new-made.result.gear ≡ first_of s =
-    ap (λ (o : Outcome). o.gear) (made.new-made.ensures ∙ ap new_gear made.profile_of.ensures) in (
-      rw first (good_fit s (λ i. omega (arith, made.shared_slice_known-1.given i)) start.requires.0),
-      omega (arith, same, count_most s),
-      omega (arith, same),
-      λ wanted. omega (arith, same, start.requires.1, room_is s),
-    )
+pub follow-at-requires : goal.follow-at-requires
+follow-at-requires c =
+    let s = c.args.file.now in
+    record {
+      fit = c.first-gear.ensures.fit;
+      few = omega (arith, ap length c.steps.ensures, count_most s);
+      room = λ wanted. omega (arith, ap length c.steps.ensures, c.requires.1, room_is s);
+    }
+
+-- the lines of the steps
+put :
+    (c : After-follow-at) →
+    Wrote c.args.out.now 0 (text_after (steps_of c.args.file.now) (first_of c.args.file.now) (count_of c.args.file.now)) c.follow-at.new.out c.follow-at.result.1
+put c =
+    let wanted : 0 < length c.args.out.now = omega (arith, c.requires.1, room_is c.args.file.now) in
+    rw (c.steps.ensures, c.first-gear.ensures.first) at c.follow-at.ensures.lines wanted
 
 pub put_end-requires : goal.put_end-requires
-put_end-requires c =
-    let ran = c in
-    let made = ran in
-    let start = made in
-    let s = start.args.file.now in
-    let first : made.new-made.result.gear ≡ first_of s =
-    ap (λ (o : Outcome). o.gear) (made.new-made.ensures ∙ ap new_gear made.profile_of.ensures) in
-    end_room s start.requires.1 ran.follow-finished.auto.out
-    (rw (ran.steps-steps.ensures, first) at ran.follow-finished.ensures.lines)
+put_end-requires c = end_room c.args.file.now c.requires.1 c.follow-at.auto.out (put (goal.at.put_end-requires c).After-follow-at)
 
 pub returns : goal.returns
 returns c =
-    let ended = c in
-    let ran = ended in
-    let made = ran in
-    let start = made in
-    let s = start.args.file.now in
-    let first : made.new-made.result.gear ≡ first_of s =
-    ap (λ (o : Outcome). o.gear) (made.new-made.ensures ∙ ap new_gear made.profile_of.ensures) in
-    let same = ran.steps-steps.ensures in record {
-      lines = end_more s (rw (same, first) at ran.follow-finished.ensures.lines)
-          (rw (ran.follow-finished.ensures.state, same, first) at ended.put_end.ensures.line);
-      within = omega (arith, ended.put_end.ensures.within, ran.follow-finished.auto.out);
-    }
+    let last = rw (c.follow-at.ensures.gear, c.steps.ensures, c.first-gear.ensures.first) at c.put_end.ensures in
+    let all = end_more c.args.file.now (put (goal.at.returns c).After-follow-at) last.wrote in
+    let same = c.put_end.ensures.same in
+    search rules

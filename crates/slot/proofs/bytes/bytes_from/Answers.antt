@@ -2,7 +2,7 @@
 use Rattle.std.proofs.Common.{rules, ℕ, zero, suc, ◌+◌, ◌≡◌, ◌∙◌, List, ◌∷◌, map, refl, ap, add-one, add-zero}
 use native.Mathlib.Nat.{add-suc}
 use Rattle.std.specs.List.{range_with_len}
-use Rattle.slot.proofs.Made.{made}
+use Rattle.numbers.proofs.Made.{made}
 use Rattle.slot.specs.Record.{at, bytes_from}
 use Rattle.slot.proofs.bytes.bytes_from.Goals as goal
 

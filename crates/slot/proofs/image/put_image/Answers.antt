@@ -34,4 +34,4 @@ returns c =
     let p12 = put_next (put_bytes 29 g.banks.identity []) (in_full 29 g.banks.identity (search rules)) p11 refl c.put-12.ensures in
     let p13 = put_next (put_bytes 17 g.banks.profile []) (in_full 17 g.banks.profile (search rules)) p12 refl c.put-13.ensures in
     let p14 = put_next (replicate 71 0) refl p13 refl c.put-14.ensures in
-    ended 512 refl c.requires p14
+    ended 512 refl (search rules) p14

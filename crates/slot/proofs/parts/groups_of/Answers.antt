@@ -1,6 +1,6 @@
 -- `parts::groups_of` meets its contract: each flag is read at its place.
 use Rattle.std.proofs.Common.{rules, ◌+◌, false}
-use Rattle.slot.proofs.Made.{made}
+use Rattle.numbers.proofs.Made.{made}
 use Rattle.slot.specs.Record.{flag_at}
 use Rattle.slot.proofs.parts.groups_of.Goals as goal
 

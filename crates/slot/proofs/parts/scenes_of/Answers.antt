@@ -2,7 +2,7 @@
 use Rattle.std.proofs.Common.{rules, ◌+◌, ◌*◌, ◌∙◌, drop}
 use lib.Seq.{drop-drop}
 use Rattle.gear.specs.Scene.{nowhere}
-use Rattle.slot.proofs.Made.{made}
+use Rattle.numbers.proofs.Made.{made}
 use Rattle.slot.specs.Record.{setting_in}
 use Rattle.slot.proofs.parts.scenes_of.Goals as goal
 

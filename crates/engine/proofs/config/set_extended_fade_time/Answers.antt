@@ -1,7 +1,0 @@
--- `config::set_extended_fade_time` meets its contract: the store is that of the image.
-use Rattle.slot.specs.Image.{image_of}
-use Rattle.engine.proofs.config.set_extended_fade_time.Goals as goal
-
-pub returns : goal.returns
-unfolding image_of
-returns c = λ g h. (rw (h.0, c.extended_fade.ensures), h.1)

@@ -1,0 +1,6 @@
+-- `storing::set_power_on_level` meets its contract: the level is stored at its place.
+use Rattle.engine.proofs.Taking.{on_put}
+use Rattle.engine.proofs.storing.set_power_on_level.Goals as goal
+
+pub returns : goal.returns
+returns c = λ g h. rw c.store_level.ensures (on_put c.args.slot.now g h c.args.level)
