@@ -54,11 +54,6 @@ cct_byte n =
     by_cases (eqb n 0x10) (λ e. rw (e, eqb-true n 0x10 e))
     (λ e. by_cases (eqb n 0x20) (λ f. rw (e, f)) (λ f. by_cases (eqb n 0x80) (λ k. rw (e, f, k)) (λ k. rw (e, f, k))))
 
-xy_byte : (n : ℕ) → is_xy (mode_of n) ≡ eqb n 0x10
-xy_byte n =
-    by_cases (eqb n 0x10) (λ e. rw e)
-    (λ e. by_cases (eqb n 0x20) (λ f. rw (e, f)) (λ f. by_cases (eqb n 0x80) (λ k. rw (e, f, k)) (λ k. rw (e, f, k))))
-
 cct_unless : (m : ColorMode) (r : Bool) → r ≡ not (sameb the_type m Cct) → is_cct m ≡ not r
 cct_unless None r e = sym (ap not e)
 cct_unless Cct r e = sym (ap not e)
@@ -74,9 +69,6 @@ xy_unless Rgb r e = sym (ap not e)
 module _ (b : List ℕ) (g : Gear) (h : Holds b g) where
   pub active_cct : is_cct g.colour.active.mode ≡ eqb (at 96 b) 0x20
   active_cct = ap is_cct (active_mode b g h) ∙ cct_byte (at 96 b)
-
-  pub active_xy : is_xy g.colour.active.mode ≡ eqb (at 96 b) 0x10
-  active_xy = ap is_xy (active_mode b g h) ∙ xy_byte (at 96 b)
 
   pub cct_told : (m : ColorMode) (r : Bool) → m ≡ mode_of (at 96 b) → r ≡ not (sameb the_type m Cct) → is_cct g.colour.active.mode ≡ not r
   cct_told m r e d = ap is_cct (active_mode b g h ∙ sym e) ∙ cct_unless m r d

@@ -15,10 +15,6 @@ unfoldable pub digits : ℕ → ℕ → List ℕ
 digits zero n = []
 digits (suc most) n = pick (ltb n 10) (digit n ∷ []) (digits most (n / 10) ++ (digit (n % 10) ∷ []))
 
--- the last two digits of a number, zeros too
-abbrev pub last_two : ℕ → List ℕ
-last_two n = digit (n / 10 % 10) ∷ digit (n % 10) ∷ []
-
 -- a number below 100,000, as all numbers here are
 abbrev pub decimal : ℕ → List ℕ
 decimal n = digits 5 n

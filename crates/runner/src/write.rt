@@ -1,5 +1,6 @@
 // A standard write on a record, where it lies. Each function stores only the parts that its command changes. They stand beside
-// gear::write's, which take the whole record of 476 bytes and hand it back: some 1,100 instructions a call (docs/PERFORMANCE.md).
+// gear::write's, which take the whole record of 476 bytes and hand it back: some 1,100 instructions a call (docs/PERFORMANCE.md). Called by
+// gear's, these would be public there and so serve any number of a scene or a group, with a test at each index that a run has no use for.
 ghost use Rattle.std.specs.Prelude.{◌≡◌, ◌<◌};
 ghost use Rattle.gear.specs.Marks.{configured};
 ghost use Rattle.gear.specs.Parts.{with_marks};

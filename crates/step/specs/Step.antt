@@ -1,5 +1,5 @@
 -- One step of a session (document 01, 'Session file and runner').
-use Rattle.std.specs.Prelude.{ℕ, ◌+◌, ◌*◌, not, eqb, replicate, Option, Some}
+use Rattle.std.specs.Prelude.{ℕ, ◌+◌, ◌*◌, not, eqb, replicate}
 use Rattle.calls.specs.Colours.{activate_call, color_value_call, copy_report_call, set_features_call, stage_call, store_tc_limit_call, tc_step_call}
 use Rattle.calls.specs.Memory.{memory_location_call, write_memory_call}
 use Rattle.calls.specs.Power.{power_cycle_call}
@@ -7,19 +7,11 @@ use Rattle.colour.specs.declared.setting.ColourSetting.{ColourSetting}
 use Rattle.gear.specs.Answer.{refused, unchanged}
 use Rattle.gear.specs.declared.answer.Outcome.{Outcome}
 use Rattle.gear.specs.declared.answer.Refusal.TheVariants.{Byte}
-use Rattle.gear.specs.Command.{command_of}
-use Rattle.gear.specs.declared.command.StandardCommand.{StandardCommand}
-use Rattle.gear.specs.declared.command.StandardCommand.TheVariants.{Arc}
 use Rattle.gear.specs.declared.record.Gear.{Gear}
-use Rattle.level.specs.declared.arc.ArcCommand.TheVariants.{DirectArcPower}
 use Rattle.gear.specs.Serve.{serve}
 use Rattle.gear.specs.Write.{apply_standard_write, direct_arc_power}
 use Rattle.numbers.specs.Numbers.{pick}
 use Rattle.query.specs.Reply.{gear_query_reply}
-
--- direct arc power has no byte of its own
-unfoldable pub command_at : ℕ → ℕ → Option StandardCommand
-command_at kind byte = pick (eqb kind 0) (Some (Arc (DirectArcPower byte))) (command_of byte)
 
 -- high byte first
 abbrev pub pair : ℕ → ℕ → ℕ
