@@ -1,10 +1,9 @@
 // Colour calls: those of the colour library, under the fit test.
 ghost use Rattle.std.specs.Prelude.{◌≡◌};
-ghost use Rattle.calls.specs.Colours.{recoloured, tc_step_call, xy_step_call, store_tc_limit_call, stage_call, activate_call, copy_report_call, set_features_call, color_value_call, colour_status_call, features_call, control_call, feature_byte_call, automatic_call};
+ghost use Rattle.calls.specs.Colours.{tc_step_call, xy_step_call, store_tc_limit_call, stage_call, activate_call, copy_report_call, set_features_call, color_value_call, colour_status_call, features_call, control_call, feature_byte_call, automatic_call};
 
 use crate::reads::tell_byte;
 use colour::activation::{activate_pending_color as activate, automatic_activation as automatic};
-use colour::record::Colour;
 use colour::setting::ColourSetting;
 use colour::staging::{copy_report_to_temporary as copy, load_temporaries_from as load};
 use colour::steps::{store_tc_limit as store, tc_step as step_tc, xy_step as step_xy};
@@ -12,70 +11,98 @@ use colour::value::{
     color_value as value_of, dt8_colour_status as status_of, dt8_features as features_of,
     gear_features_byte as feature_byte, rgbwaf_control_byte as control_of,
 };
-use gear::answer::{Answer, Outcome, done, flag, unexplained, value_answer};
+use gear::answer::{Answer, Outcome, Refusal, done, flag, refused, unexplained, value_answer};
 use gear::record::Gear;
-use gear::serve::{serve, tell};
+use gear::serve::tell;
 
-// The record with another colour, if it is fit.
-#[tactic(auto, unfolding(crate::specs::Colours::recoloured))]
-fn recoloured(gear: Gear, colour: Colour) -> Outcome
-    ensures { result ≡ recoloured gear colour }
-{
-    serve(gear, done(Gear { colour, ..gear }))
-}
-
-#[tactic(auto, unfolding(crate::specs::Colours::tc_step_call))]
+#[tactic(auto, unfolding(crate::specs::Colours::tc_step_call, crate::specs::Colours::recoloured, gear::specs::Serve::serve))]
 pub fn tc_step(gear: Gear, warmer: bool) -> Outcome
     ensures { result ≡ tc_step_call gear warmer }
 {
-    recoloured(gear, step_tc(gear.colour, warmer))
+    if !gear.fit() {
+        return refused(gear, Refusal::Unfit);
+    }
+    let mut next = gear;
+    next.colour = step_tc(next.colour, warmer);
+    done(next)
 }
 
-#[tactic(auto, unfolding(crate::specs::Colours::xy_step_call))]
+#[tactic(auto, unfolding(crate::specs::Colours::xy_step_call, crate::specs::Colours::recoloured, gear::specs::Serve::serve))]
 pub fn xy_step(gear: Gear, y_axis: bool, up: bool) -> Outcome
     ensures { result ≡ xy_step_call gear y_axis up }
 {
-    recoloured(gear, step_xy(gear.colour, y_axis, up))
+    if !gear.fit() {
+        return refused(gear, Refusal::Unfit);
+    }
+    let mut next = gear;
+    next.colour = step_xy(next.colour, y_axis, up);
+    done(next)
 }
 
-#[tactic(auto, unfolding(crate::specs::Colours::store_tc_limit_call))]
+#[tactic(auto, unfolding(crate::specs::Colours::store_tc_limit_call, crate::specs::Colours::recoloured, gear::specs::Serve::serve))]
 pub fn store_tc_limit(gear: Gear, value: u16, selector: u8) -> Outcome
     ensures { result ≡ store_tc_limit_call gear value selector }
 {
-    recoloured(gear, store(gear.colour, value, selector))
+    if !gear.fit() {
+        return refused(gear, Refusal::Unfit);
+    }
+    let mut next = gear;
+    next.colour = store(next.colour, value, selector);
+    done(next)
 }
 
 // Stages a colour, whatever the gear can do.
-#[tactic(auto, unfolding(crate::specs::Colours::stage_call))]
+#[tactic(auto, unfolding(crate::specs::Colours::stage_call, crate::specs::Colours::recoloured, gear::specs::Serve::serve))]
 pub fn load_temporaries_from(gear: Gear, setting: ColourSetting) -> Outcome
     ensures { result ≡ stage_call gear setting }
 {
-    recoloured(gear, load(gear.colour, setting))
+    if !gear.fit() {
+        return refused(gear, Refusal::Unfit);
+    }
+    let mut next = gear;
+    next.colour = load(next.colour, setting);
+    done(next)
 }
 
-#[tactic(auto, unfolding(crate::specs::Colours::activate_call))]
+#[tactic(auto, unfolding(crate::specs::Colours::activate_call, crate::specs::Colours::recoloured, gear::specs::Serve::serve))]
 pub fn activate_pending_color(gear: Gear) -> Outcome
     ensures { result ≡ activate_call gear }
 {
-    recoloured(gear, activate(gear.colour))
+    if !gear.fit() {
+        return refused(gear, Refusal::Unfit);
+    }
+    let mut next = gear;
+    next.colour = activate(next.colour);
+    done(next)
 }
 
-#[tactic(auto, unfolding(crate::specs::Colours::copy_report_call))]
+#[tactic(auto, unfolding(crate::specs::Colours::copy_report_call, crate::specs::Colours::recoloured, gear::specs::Serve::serve))]
 pub fn copy_report_to_temporary(gear: Gear) -> Outcome
     ensures { result ≡ copy_report_call gear }
 {
-    recoloured(gear, copy(gear.colour))
+    if !gear.fit() {
+        return refused(gear, Refusal::Unfit);
+    }
+    let mut next = gear;
+    next.colour = copy(next.colour);
+    done(next)
 }
 
 // The whole byte is stored; only bit 0 has an effect.
-#[tactic(auto, unfolding(crate::specs::Colours::set_features_call))]
+#[tactic(auto, unfolding(crate::specs::Colours::set_features_call, crate::specs::Colours::recoloured, gear::specs::Serve::serve, colour::specs::Record::with_features))]
 pub fn set_gear_features(gear: Gear, features: u8) -> Outcome
     ensures { result ≡ set_features_call gear features }
 {
-    recoloured(gear, gear.colour.with_features(features))
+    if !gear.fit() {
+        return refused(gear, Refusal::Unfit);
+    }
+    let mut next = gear;
+    next.colour.features = features;
+    done(next)
 }
 
 #[tactic(auto, unfolding(crate::specs::Colours::color_value_call, gear::specs::Serve::tell))]
+#[inline(always)]
 pub fn color_value(gear: Gear, id: u8) -> Answer
     ensures { result ≡ color_value_call gear id }
 {

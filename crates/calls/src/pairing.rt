@@ -2,9 +2,9 @@
 ghost use Rattle.std.specs.Prelude.{◌≡◌};
 ghost use Rattle.calls.specs.Pairing.{heard_answer, paired, hear, hear_call, holds_call, hear_elsewhere_call};
 
-use gear::answer::{Answer, Outcome, Reply, flag};
+use gear::answer::{Answer, Outcome, Refusal, Reply, flag, refused};
 use gear::record::Gear;
-use gear::serve::{serve, tell};
+use gear::serve::tell;
 
 // The bits of the answer to a frame: it is carried out; it completed a pair; it split another one.
 const CARRIED_OUT: u16 = 1;
@@ -29,13 +29,9 @@ pub fn heard_answer(repeats: bool, split: bool) -> Answer
 fn paired(gear: Gear, answer: Answer, pair: Option<u16>) -> Outcome
     ensures { result ≡ paired gear answer pair }
 {
-    Outcome {
-        answer,
-        gear: Gear {
-            marks: gear.marks.with_pair(pair),
-            ..gear
-        },
-    }
+    let mut next = gear;
+    next.marks = gear.marks.with_pair(pair);
+    Outcome { answer, gear: next }
 }
 
 // The frame that waits completes its pair; any other splits it, and waits for its own second copy where it wants one.
@@ -59,7 +55,10 @@ fn heard(gear: Gear, frame: u16, repeats: bool) -> Outcome
 pub fn hear(gear: Gear, frame: u16, repeats: bool) -> Outcome
     ensures { result ≡ hear_call gear frame repeats }
 {
-    serve(gear, heard(gear, frame, repeats))
+    if !gear.fit() {
+        return refused(gear, Refusal::Unfit);
+    }
+    heard(gear, frame, repeats)
 }
 
 #[tactic(auto, unfolding(crate::specs::Pairing::holds_call, crate::specs::Pairing::waits))]
@@ -74,12 +73,13 @@ pub fn holds(gear: Gear, frame: u16) -> Answer
 pub fn hear_elsewhere(gear: Gear) -> Outcome
     ensures { result ≡ hear_elsewhere_call gear }
 {
-    let outcome = Outcome {
+    if !gear.fit() {
+        return refused(gear, Refusal::Unfit);
+    }
+    let mut next = gear;
+    next.marks = gear.marks.with_walk(None).with_pair(None);
+    Outcome {
         answer: flag(gear.marks.pair.is_some()),
-        gear: Gear {
-            marks: gear.marks.with_walk(None).with_pair(None),
-            ..gear
-        },
-    };
-    serve(gear, outcome)
+        gear: next,
+    }
 }

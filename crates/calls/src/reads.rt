@@ -13,7 +13,8 @@ use query::lamp::{
 };
 use query::status::status_byte as status_of;
 
-// A byte of a fit record.
+// A byte of a fit record. Put into each call, as `tell` is.
+#[inline(always)]
 pub(crate) fn tell_byte(gear: Gear, byte: u8) -> Answer
     ensures { result ≡ tell gear (Ok (Value byte)) }
 {

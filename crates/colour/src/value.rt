@@ -51,8 +51,10 @@ fn own_or(kind: u8, owner: u8, value: u16, mask: u16) -> u16
 
 // The place of an id among the numbers of an active, staged or reported colour: 0 x, 1 y, 2 temperature, 9 to 14 the
 // channels, 15 the control, 16 the type. Numbers, as table 11 has them: an enum of the places would be made of them by such a match, for
-// this one to match again.
+// this one to match again. Put into its three places: called (tried), its Result goes through memory, and an id that no gear has takes a run
+// 8.3 ns and not 4.4.
 #[tactic(auto, unfolding(crate::specs::Value::shown))]
+#[inline(always)]
 fn shown(can: Capabilities, setting: ColourSetting, place: u8) -> Result<u16, NoValue>
     ensures { result ≡ shown can setting place }
 {

@@ -6,6 +6,7 @@ use crate::profile::Unit;
 use colour::record::{Capabilities, Colour};
 use colour::setting::ColourSetting;
 use colour::staging::take_staged_colour;
+use colour::tint::ColorMode;
 use level::levels::Levels;
 
 // A level with its colour: for power-on, for system failure, and of a scene.
@@ -100,11 +101,15 @@ pub fn store_level_setting(kept: LevelSetting, level: u8, colour: Colour) -> Sto
 }
 
 // The same where they lie.
+#[tactic(auto, unfolding(crate::specs::Settings::store_level_setting, colour::specs::Staging::take_staged_colour))]
 pub fn store_level(kept: &mut LevelSetting, colour: &mut Colour, level: u8)
     ensures kept { kept.new ≡ (store_level_setting kept.old level colour.old).setting }
     ensures colour { colour.new ≡ (store_level_setting kept.old level colour.old).colour }
 {
-    let stored = store_level_setting(*kept, level, *colour);
-    *kept = stored.setting;
-    *colour = stored.colour;
+    kept.level = level;
+    if colour.pending.mode != ColorMode::None {
+        kept.colour = colour.pending.captured();
+        colour.pending.mode = ColorMode::None;
+        colour.pending.control = ColourSetting::CONTROL_MASK;
+    }
 }

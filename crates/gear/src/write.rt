@@ -7,7 +7,6 @@ use crate::command::{ConfigCommand, StandardCommand, command_of};
 use crate::parts::{extended_fade, keeps_identify, recalled_levels, set_min};
 use crate::record::Gear;
 use crate::scene::scene_at;
-use crate::serve::serve;
 use crate::settings::{LevelSetting, Settings, store_level, store_level_setting};
 use colour::activation::{arc_power_activation, recall};
 use level::arc::{ArcCommand, apply_arc};
@@ -147,11 +146,13 @@ fn write(gear: Gear, command: StandardCommand, dtr0: u8) -> Outcome
 pub fn apply_standard_write(gear: Gear, byte: u8, dtr0: u8) -> Outcome
     ensures { result ≡ apply_standard_write gear byte dtr0 }
 {
-    let outcome = match command_of(byte) {
+    if !gear.fit() {
+        return refused(gear, Refusal::Unfit);
+    }
+    match command_of(byte) {
         Some(command) => write(gear, command, dtr0),
         None => refused(gear, Refusal::Byte),
-    };
-    serve(gear, outcome)
+    }
 }
 
 // Direct arc power, which has no byte of its own.
@@ -159,8 +160,8 @@ pub fn apply_standard_write(gear: Gear, byte: u8, dtr0: u8) -> Outcome
 pub fn direct_arc_power(gear: Gear, level: u8) -> Outcome
     ensures { result ≡ direct_arc_power gear level }
 {
-    serve(
-        gear,
-        done(arc_write(gear, ArcCommand::DirectArcPower(level))),
-    )
+    if !gear.fit() {
+        return refused(gear, Refusal::Unfit);
+    }
+    done(arc_write(gear, ArcCommand::DirectArcPower(level)))
 }

@@ -6,10 +6,9 @@ use crate::heard::{reports, shown, walked};
 use crate::told::{Seen, query_answer};
 use colour::record::Colour;
 use colour::report::load_report_from;
-use gear::answer::Outcome;
+use gear::answer::{Outcome, Refusal, refused};
 use gear::record::Gear;
 use gear::scene::scene_at;
-use gear::serve::serve;
 
 // Part 209, 11.3.2: a colour gear reports the colour of the level that it tells.
 fn reported(gear: Gear, byte: u8) -> Colour
@@ -41,5 +40,8 @@ fn query(gear: Gear, byte: u8) -> Outcome
 pub fn gear_query_reply(gear: Gear, byte: u8) -> Outcome
     ensures { result ≡ gear_query_reply gear byte }
 {
-    serve(gear, query(gear, byte))
+    if !gear.fit() {
+        return refused(gear, Refusal::Unfit);
+    }
+    query(gear, byte)
 }

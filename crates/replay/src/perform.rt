@@ -31,48 +31,45 @@ use gear::write::{apply_standard_write, direct_arc_power};
 use query::reply::gear_query_reply;
 
 // Kinds 0 to 3.
-fn standard(gear: Gear, entry: Entry) -> Option<Outcome> {
-    Some(match entry.kind() {
+fn standard(gear: Gear, entry: Entry) -> Outcome {
+    match entry.kind() {
         0 => new_gear(gear, entry),
         1 => apply_standard_write(gear, entry.byte(1), entry.byte(2)),
         2 => direct_arc_power(gear, entry.byte(1)),
-        3 => gear_query_reply(gear, entry.byte(1)),
-        _ => return None,
-    })
+        _ => gear_query_reply(gear, entry.byte(1)),
+    }
 }
 
 // Kinds 4 to 10.
-fn colours(gear: Gear, entry: Entry) -> Option<Outcome> {
-    Some(match entry.kind() {
+fn colours(gear: Gear, entry: Entry) -> Outcome {
+    match entry.kind() {
         4 => tc_step(gear, entry.flag(1)),
         5 => xy_step(gear, entry.flag(1), entry.flag(2)),
         6 => store_tc_limit(gear, entry.word(2), entry.byte(1)),
         7 => load_temporaries_from(gear, entry.setting(1)),
         8 => activate_pending_color(gear),
         9 => unchanged(gear, color_value(gear, entry.byte(1))),
-        10 => copy_report_to_temporary(gear),
-        _ => return None,
-    })
+        _ => copy_report_to_temporary(gear),
+    }
 }
 
 // Kinds 11 to 16.
-fn features(gear: Gear, entry: Entry) -> Option<Outcome> {
-    Some(match entry.kind() {
+fn features(gear: Gear, entry: Entry) -> Outcome {
+    match entry.kind() {
         11 => unchanged(gear, dt8_colour_status(gear)),
         12 => unchanged(gear, dt8_features(gear)),
         13 => unchanged(gear, rgbwaf_control_byte(gear)),
         14 => unchanged(gear, gear_features_byte(gear)),
         15 => unchanged(gear, automatic_activation(gear)),
-        16 => set_gear_features(gear, entry.byte(1)),
-        _ => return None,
-    })
+        _ => set_gear_features(gear, entry.byte(1)),
+    }
 }
 
 // Kinds 17 to 25.
-fn memory(gear: Gear, entry: Entry) -> Option<Outcome> {
+fn memory(gear: Gear, entry: Entry) -> Outcome {
     let first = entry.byte(1);
     let second = entry.byte(2);
-    Some(match entry.kind() {
+    match entry.kind() {
         17 => unchanged(gear, memory_location(gear, first, second)),
         18 => write_memory_location(gear, first, second, entry.byte(3)),
         19 => unchanged(gear, advances_dtr0_past(gear, first, second)),
@@ -81,9 +78,8 @@ fn memory(gear: Gear, entry: Entry) -> Option<Outcome> {
         22 => set_bank1_location(gear, first, second),
         23 => set_logical_gear_unit(gear, first, second),
         24 => set_bank0_last_offset(gear, first),
-        25 => clear_identification_number(gear),
-        _ => return None,
-    })
+        _ => clear_identification_number(gear),
+    }
 }
 
 // Kinds 26 to 30.
@@ -109,19 +105,18 @@ fn faults(entry: Entry) -> Faults {
 }
 
 // Kinds 31 to 34.
-fn setters(gear: Gear, entry: Entry) -> Option<Outcome> {
-    Some(match entry.kind() {
+fn setters(gear: Gear, entry: Entry) -> Outcome {
+    match entry.kind() {
         31 => set_enabled(gear, entry.flag(1)),
         32 => set_lamp_failure(gear, entry.flag(1)),
         33 => set_lamp_starting(gear, entry.flag(1)),
-        34 => set_faults(gear, faults(entry)),
-        _ => return None,
-    })
+        _ => set_faults(gear, faults(entry)),
+    }
 }
 
 // Kinds 35 to 43.
-fn reads(gear: Gear, entry: Entry) -> Option<Answer> {
-    Some(match entry.kind() {
+fn reads(gear: Gear, entry: Entry) -> Answer {
+    match entry.kind() {
         35 => status_byte(gear),
         36 => lamp_on(gear),
         37 => failure_bits(gear),
@@ -130,19 +125,20 @@ fn reads(gear: Gear, entry: Entry) -> Option<Answer> {
         40 => actual_level_answer(gear),
         41 => is_type(gear, 6),
         42 => is_type(gear, 7),
-        43 => is_type(gear, 8),
-        _ => return None,
-    })
+        _ => is_type(gear, 8),
+    }
 }
 
-// The groups have no kind in common. None for an entry that can't stand in a list.
+// None for an entry that can't stand in a list.
 pub fn perform(gear: Gear, entry: Entry) -> Option<Outcome> {
-    standard(gear, entry)
-        .or_else(|| colours(gear, entry))
-        .or_else(|| features(gear, entry))
-        .or_else(|| memory(gear, entry))
-        .or_else(|| bus(gear, entry))
-        .or_else(|| setters(gear, entry))
-        .or_else(|| reads(gear, entry).map(|answer| unchanged(gear, answer)))
-        .or_else(|| place(gear, entry))
+    Some(match entry.kind() {
+        0..=3 => standard(gear, entry),
+        4..=10 => colours(gear, entry),
+        11..=16 => features(gear, entry),
+        17..=25 => memory(gear, entry),
+        26..=30 => return bus(gear, entry),
+        31..=34 => setters(gear, entry),
+        35..=43 => unchanged(gear, reads(gear, entry)),
+        _ => return place(gear, entry),
+    })
 }

@@ -5,5 +5,6 @@ pub mod ask;
 mod follow;
 mod line;
 mod perform;
+mod recolour;
 pub mod run;
 mod write;

@@ -81,7 +81,7 @@ impl<'a> Lines<'a> {
         }
     }
 
-    fn wanted(&self) -> bool
+    pub(crate) fn wanted(&self) -> bool
         ensures { result ≡ ltb 0 (length self.now.out.now) }
     {
         !self.out.is_empty()

@@ -8,13 +8,9 @@ ghost use Rattle.gear.specs.Record.{fitb};
 ghost use Rattle.query.specs.Reply.{query, reported};
 ghost use Rattle.step.specs.Kinds.{taken};
 
+use crate::recolour::{activate, copy_report, power_up, stage_tc, step_tc, store_limit};
 use crate::write::{arc_write, write};
 use bank::memory::{memory_location, write_memory_location};
-use colour::activation::activate_pending_color;
-use colour::record::Colour;
-use colour::report::load_report_from;
-use colour::staging::{copy_report_to_temporary, load_temporaries_from};
-use colour::steps::{store_tc_limit, tc_step};
 use colour::value::color_value;
 use gear::answer::{Answer, Refusal, Reply, location_answer, value_answer};
 use gear::command::command_of;
@@ -23,38 +19,42 @@ use level::arc::ArcCommand;
 use query::heard::{reports, shown, walked};
 use query::told::{Seen, query_answer};
 use step::kind::Step;
-use step::temperature;
 
 // What a query answers. The scene is read here and in the next function, where the record lies. Tried: gear's `scene_at` and query's
 // `reported`, called with a `&Gear`; 4,096 queries with their lines took 1,343,000 instructions and not 902,000, which is 1.5 times the
 // Rust's, and not 1.02.
 #[tactic(auto, using(query::proofs::Parts::query_tells, step::proofs::Slots::scene_at_lem))]
-fn told(gear: &Gear, byte: u8) -> Answer
-    ensures { result ≡ (query gear.now byte).answer }
+fn told(gear: &Gear, byte: u8, wanted: bool) -> Answer
+    ensures { wanted ≡ true → result ≡ (query gear.now byte).answer }
 {
+    if !wanted {
+        return Ok(Reply::Done);
+    }
     let scene = gear.scenes[usize::from(byte % 16)].level;
     query_answer(Seen::of(gear, scene), byte)
 }
 
 // The colour of the level that a query tells.
-#[tactic(auto, using(query::proofs::Parts::reported_shown, step::proofs::Slots::scene_at_lem))]
+#[tactic(auto, using(query::proofs::Parts::reported_shown, step::proofs::Slots::scene_at_lem), unfolding(colour::specs::Report::report_from))]
 fn report(gear: &mut Gear, byte: u8)
     ensures { gear.new ≡ with_colour gear.old (reported gear.old byte) }
 {
     if reports(gear.unit, byte) {
         let scene = gear.scenes[usize::from(byte % 16)].colour;
         let told = shown(gear.colour.active, gear.settings, scene, byte);
-        gear.colour = load_report_from(gear.colour, told);
+        gear.colour.report = told;
     }
 }
 
-#[tactic(auto, using(query::proofs::Parts::query_walks))]
-fn query(gear: &mut Gear, byte: u8) -> Answer
-    ensures { record { answer = result; gear = gear.new } ≡ query gear.old byte }
+// A query, and what it answers where that is wanted.
+#[tactic(auto, using(query::proofs::Parts::query_walks, crate::proofs::Walk::walk_alone))]
+fn query(gear: &mut Gear, byte: u8, wanted: bool) -> Answer
+    ensures gear { gear.new ≡ (query gear.old byte).gear }
+    ensures answer { wanted ≡ true → result ≡ (query gear.old byte).answer }
 {
-    let answer = told(gear, byte);
+    let answer = told(gear, byte, wanted);
     report(gear, byte);
-    gear.marks = walked(gear.unit, gear.marks, byte);
+    gear.marks.walk = walked(gear.unit, gear.marks, byte).walk;
     answer
 }
 
@@ -73,56 +73,50 @@ fn write_memory(gear: &mut Gear, bank: u8, offset: u8, value: u8) -> Answer
     location_answer(written.answer)
 }
 
-fn recolour<F: FnOnce(Colour) -> Colour>(gear: &mut Gear, change: F)
-    requires { F.IsAlwaysCallable change }
-    ensures { (colour : Colour) × F.post change gear.old.colour colour × (gear.new ≡ with_colour gear.old colour) }
-{
-    gear.colour = change(gear.colour);
-}
-
 #[tactic(auto, unfolding(calls::specs::Power::power_cycle))]
 fn power_cycle(gear: &mut Gear)
     ensures { gear.new ≡ power_cycle gear.old }
 {
     gear.levels = gear.levels.power_up(gear.settings.on.level);
     gear.marks = gear.marks.power_up();
-    gear.colour = gear.colour.power_up();
+    power_up(&mut gear.colour);
 }
 
-// What the step answers. This is a table, an arm for each kind of step: each stores only the parts that it changes, and none asks whether
-// the record is fit, since a step leaves a fit record fit. An arm that works on whole parts is a function of its own: with the body of
-// `write_memory` in its arm (tried), a step of the mixes 'power' and 'queries' (bench/run), which don't take it, costs 4 instructions more,
-// 184 and 228 and not 180 and 224.
+// What the step answers, where that is `wanted`: else a step that only tells is passed over, and of a query only what it leaves is done. This
+// is a table, an arm for each kind of step: each stores only the parts that it changes, and none asks whether the record is fit, since a step
+// leaves a fit record fit. An arm that works on whole parts is a function of its own: with the body of `write_memory` in its arm (tried), a
+// step of the mixes 'power' and 'queries' (bench/run), which don't take it, costs 4 instructions more, 184 and 228 and not 180 and 224.
 #[tactic(auto, using(step::proofs::OnFit::on_fit, step::proofs::Slots::slot_low), unfolding(colour::specs::Record::with_features))]
-pub(crate) fn perform(gear: &mut Gear, step: Option<Step>) -> Answer
+pub(crate) fn perform(gear: &mut Gear, step: Option<Step>, wanted: bool) -> Answer
     requires { fitb gear.old ≡ true }
-    ensures { record { answer = result; gear = gear.new } ≡ taken gear.old step }
+    ensures gear { gear.new ≡ (taken gear.old step).gear }
+    ensures answer { wanted ≡ true → result ≡ (taken gear.old step).answer }
 {
     match step.ok_or(Refusal::Byte)? {
         Step::DirectArcPower(level) => arc_write(gear, ArcCommand::DirectArcPower(level)),
         Step::Write { byte, dtr0 } => return write(gear, command_of(byte), dtr0),
-        Step::Query(byte) => return query(gear, byte),
+        Step::Query(byte) => return query(gear, byte, wanted),
         Step::ReadMemory { bank, offset } => {
-            return location_answer(memory_location(gear.banks, gear.unit.bare, bank, offset));
+            if wanted {
+                return location_answer(memory_location(gear.banks, gear.unit.bare, bank, offset));
+            }
         }
         Step::WriteMemory {
             bank,
             offset,
             value,
         } => return write_memory(gear, bank, offset, value),
-        Step::ColourValue(id) => return value_answer(color_value(gear.colour, id)),
-        Step::StoreTcLimit { selector, value } => recolour(
-            gear,
-            |colour| store_tc_limit(colour, value, selector),
-        ),
-        Step::TcStep { warmer } => recolour(gear, |colour| tc_step(colour, warmer)),
-        Step::StageTc(tc) => recolour(
-            gear,
-            |colour| load_temporaries_from(colour, temperature(tc)),
-        ),
-        Step::Activate => recolour(gear, activate_pending_color),
+        Step::ColourValue(id) => {
+            if wanted {
+                return value_answer(color_value(gear.colour, id));
+            }
+        }
+        Step::StoreTcLimit { selector, value } => store_limit(&mut gear.colour, value, selector),
+        Step::TcStep { warmer } => step_tc(&mut gear.colour, warmer),
+        Step::StageTc(tc) => stage_tc(&mut gear.colour, tc),
+        Step::Activate => activate(&mut gear.colour),
         Step::PowerCycle => power_cycle(gear),
-        Step::CopyReport => recolour(gear, copy_report_to_temporary),
+        Step::CopyReport => copy_report(&mut gear.colour),
         Step::SetFeatures(features) => gear.colour.features = features,
     }
     Ok(Reply::Done)

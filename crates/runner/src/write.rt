@@ -7,7 +7,7 @@ ghost use Rattle.gear.specs.Parts.{with_marks};
 ghost use Rattle.gear.specs.Write.{arc_write, config_write, recall_scene, write};
 ghost use Rattle.step.specs.Slot.{setting_slot, slot_of};
 
-use colour::activation::{arc_power_activation, recall};
+use crate::recolour::{arc_power, recall};
 use gear::answer::{Answer, Refusal, Reply};
 use gear::command::{ConfigCommand, StandardCommand};
 use gear::parts::{extended_fade, keeps_identify, recalled_levels, set_min};
@@ -27,7 +27,7 @@ pub(crate) fn arc_write(gear: &mut Gear, command: ArcCommand)
 {
     gear.levels = apply_arc(gear.levels, command);
     gear.marks = gear.marks.asked(keeps_identify(command));
-    gear.colour = arc_power_activation(gear.colour);
+    arc_power(&mut gear.colour);
 }
 
 #[tactic(auto, using(step::proofs::Slots::scene_at_lem), unfolding(gear::specs::Write::recall_scene))]
@@ -38,7 +38,7 @@ fn recall_scene(gear: &mut Gear, scene: u8)
     let entry = gear.scenes[usize::from(scene)];
     gear.levels = recalled_levels(gear.levels, entry.level);
     gear.marks = gear.marks.asked(false);
-    gear.colour = recall(gear.colour, entry.colour);
+    recall(&mut gear.colour, entry.colour);
 }
 
 // The marks are left to the caller: with them stored here, before the match (tried), a step takes 182 instructions in the mix 'power'

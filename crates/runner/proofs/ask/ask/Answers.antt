@@ -23,5 +23,5 @@ returns c =
     let a = c.args in
     let last : c.follow.new.gear ≡ last_of a.file.now = rw (← c.steps.ensures, ← c.first-gear.ensures.first) c.follow.ensures.gear in
     let answer : c.follow-2.result.0 ≡ (step (last_of a.file.now) a.kind a.a a.b a.c).answer =
-    c.follow-2.ensures.answer ∙ ap (λ (g : Gear). (step g a.kind a.a a.b a.c).answer) last in
+    c.follow-2.ensures.answer (omega arith) ∙ ap (λ (g : Gear). (step g a.kind a.a a.b a.c).answer) last in
     search rules

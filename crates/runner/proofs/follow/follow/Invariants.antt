@@ -8,7 +8,7 @@ use Rattle.runner.proofs.follow.follow.Given as goal
 abbrev pub invariant-loop-k : goal.invariant-loop-k
 invariant-loop-k l = record {
   state : l.gear ≡ state_after l.steps l.fn.gear l.k;
-  answer : l.answer ≡ answer_after l.steps l.fn.gear l.k;
+  answer : 0 < length l.initial.lines.out.now → l.answer ≡ answer_after l.steps l.fn.gear l.k;
   fit : fitb l.gear ≡ true;
   lines : 0 < length l.initial.lines.out.now → Put l.initial.lines (text_after l.steps l.fn.gear l.k) l.lines;
   size : length l.lines.out.now ≡ length l.initial.lines.out.now;
