@@ -89,7 +89,7 @@ pub fn copy_report_to_temporary(gear: Gear) -> Outcome
 }
 
 // The whole byte is stored; only bit 0 has an effect.
-#[tactic(auto, unfolding(crate::specs::Colours::set_features_call, crate::specs::Colours::recoloured, gear::specs::Serve::serve, colour::specs::Record::with_features))]
+#[tactic(auto, unfolding(crate::specs::Colours::set_features_call, crate::specs::Colours::recoloured, gear::specs::Serve::serve))]
 pub fn set_gear_features(gear: Gear, features: u8) -> Outcome
     ensures { result ≡ set_features_call gear features }
 {
@@ -97,7 +97,7 @@ pub fn set_gear_features(gear: Gear, features: u8) -> Outcome
         return refused(gear, Refusal::Unfit);
     }
     let mut next = gear;
-    next.colour.features = features;
+    next.colour = next.colour.with_features(features);
     done(next)
 }
 

@@ -1,6 +1,6 @@
 // What a step does to the colour, where that lies: each stores the numbers that it changes, and no other. They stand beside colour's functions
 // of the same rules, which take a colour of 62 bytes and hand it back: with those in a run (tried), a Tc step takes 10.6 ns and not 4.4, arc
-// power 11 and not 5, a scene that is stored 22 and not 9, since the processor waits where it reads back at once what was copied in pieces.
+// power 10 and not 5, a scene that is stored 24 and not 6, since the processor waits where it reads back at once what was copied in pieces.
 ghost use Rattle.std.specs.Prelude.{◌≡◌};
 ghost use Rattle.colour.specs.Activation.{activate, arc_power, recall};
 ghost use Rattle.colour.specs.Record.{power_up};
